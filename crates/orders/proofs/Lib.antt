@@ -1,0 +1,9 @@
+pub mod Runs
+pub mod Reading
+pub mod Bytes
+pub mod Packing
+pub mod Fitting
+pub mod Trip
+pub mod Back
+pub mod Streams
+pub mod Turns

@@ -1,0 +1,6 @@
+pub mod Bits
+pub mod Faults
+pub mod Reading
+pub mod Writing
+pub mod Streams
+pub mod Numbers

@@ -1,0 +1,123 @@
+// Reads the order at the front of a stream.
+ghost use mathlib.Core.Path.{_≡_};
+ghost use mathlib.Core.List.{_++_};
+ghost use Prim.Native.Nat.{_+_, _*_, _<_, _≤_, _^_};
+ghost use lib.ListN.{length};
+ghost use Rattle.std.specs.Vec.{made};
+ghost use Rattle.orders.specs.Reading.{signed, placeRead, widthOf, fieldsRead, paddingAfter, paddingRead, read, plain};
+ghost use Rattle.orders.specs.Writing.{encode};
+use crate::bits::BitReader;
+use crate::fault::BitFault;
+use crate::fault::OrderFault;
+use crate::fault::OrderFaultFromBits;
+use crate::order::Order;
+
+// What a set and a move say.
+struct Place {
+    gate: u8,
+    distance: u32,
+    height: i32,
+}
+
+// A number of 20 bits in two's complement.
+fn sign_extended(bits: u32) -> i32
+    requires narrow { ⌜ bits < 2 ^ 20 ⌝ }
+    ensures value { λ r. ⌜ r ≡ signed bits ⌝ }
+{
+    if bits < 1 << 19 {
+        bits as i32
+    } else {
+        bits as i32 - (1 << 20)
+    }
+}
+
+// The fields of a set or a move.
+fn read_place(reader: &mut BitReader) -> Result<Place, BitFault>
+    requires after_kind { ⌜ now reader .at ≡ 3 ⌝ }
+    ensures same { λ _. ⌜ now (now (reader .exit) .bytes) ≡ now (now (reader .entry) .bytes) ⌝ }
+    ensures value { λ r. ⌜ r ≡ placeRead (now (now (reader .entry) .bytes)) ⌝ }
+    ensures moved { λ r. ⌜ made r (λ _. now (reader .exit) .at ≡ 51) ⌝ }
+{
+    let gate = reader.field(8)? as u8;
+    let distance = reader.field(20)? as u32;
+    let height = sign_extended(reader.field(20)? as u32);
+    Ok(Place {
+        gate,
+        distance,
+        height,
+    })
+}
+
+// The order of a kind, from the fields after the kind.
+fn read_fields(reader: &mut BitReader, kind: u8) -> Result<Order, OrderFault>
+    requires after_kind { ⌜ now reader .at ≡ 3 ⌝ }
+    ensures same { λ _. ⌜ now (now (reader .exit) .bytes) ≡ now (now (reader .entry) .bytes) ⌝ }
+    ensures value { λ r. ⌜ r ≡ fieldsRead kind (now (now (reader .entry) .bytes)) ⌝ }
+    ensures moved { λ r. ⌜ made r (λ _. (now (reader .exit) .at ≡ widthOf kind) × (widthOf kind ≤ 8 * length (now (now (reader .entry) .bytes)))) ⌝ }
+{
+    match kind {
+        0 => {
+            let Place {
+                gate,
+                distance,
+                height,
+            } = read_place(reader)?;
+            Ok(Order::Set {
+                gate,
+                distance,
+                height,
+            })
+        }
+        1 => Ok(Order::Lift {
+            gate: reader.field(8)? as u8,
+        }),
+        2 => {
+            let Place {
+                gate,
+                distance,
+                height,
+            } = read_place(reader)?;
+            Ok(Order::Move {
+                gate,
+                distance,
+                height,
+            })
+        }
+        3 => Ok(Order::PlanFor {
+            zones: reader.field(6)? as u8,
+        }),
+        4 => Ok(Order::PlanWithin {
+            limit: reader.field(43)?,
+        }),
+        _ => Err(OrderFault::Kind(kind)),
+    }
+}
+
+// The bits up to the next whole byte, all of which are 0.
+fn read_padding(reader: &mut BitReader) -> Result<(), OrderFault>
+    requires within { ⌜ now reader .at ≤ 8 * length (now (now reader .bytes)) ⌝ }
+    requires early { ⌜ now reader .at < 64 ⌝ }
+    ensures same { λ _. ⌜ now (now (reader .exit) .bytes) ≡ now (now (reader .entry) .bytes) ⌝ }
+    ensures value { λ r. ⌜ r ≡ paddingRead (now (reader .entry) .at) (now (now (reader .entry) .bytes)) ⌝ }
+    ensures moved { λ r. ⌜ made r (λ _. now (reader .exit) .at ≡ now (reader .entry) .at + paddingAfter (now (reader .entry) .at)) ⌝ }
+{
+    let bits = (8 - reader.at % 8) % 8;
+    if reader.field(bits as u32)? != 0 {
+        return Err(OrderFault::Padding);
+    }
+    Ok(())
+}
+
+// The order at the front of a stream, and the rest of the stream.
+pub fn read_order(bytes: &[u8]) -> Result<(Order, &[u8]), OrderFault>
+    ensures as_defined { λ r. ⌜ plain r ≡ read (now (bytes .entry)) ⌝ }
+    ensures what_the_writer_makes { λ r. ⌜ made r (λ p. encode (p .0) ++ now (p .1) ≡ now (bytes .entry)) ⌝ }
+{
+    let [first, rest @ ..] = bytes else {
+        return Err(OrderFault::Bits(BitFault::Ends));
+    };
+    let mut reader = BitReader { bytes, at: 3 };
+    let order = read_fields(&mut reader, *first >> 5)?;
+    read_padding(&mut reader)?;
+    Ok((order, &rest[reader.at / 8 - 1..]))
+}

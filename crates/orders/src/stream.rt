@@ -1,0 +1,67 @@
+// Reads a whole stream.
+ghost use mathlib.Core.Path.{_≡_};
+ghost use mathlib.Core.List.{_++_};
+ghost use Prim.Native.Nat.{_≤_};
+ghost use lib.ListN.{length, take, drop};
+ghost use Rattle.std.specs.Vec.{made};
+ghost use Rattle.std.specs.declared.option.Option.the-variants.{None};
+ghost use Rattle.orders.specs.Streams.{parse, countAnswer, readAnswer, readLeaves, Splits};
+ghost use Rattle.orders.specs.Writing.{encodeAll};
+use crate::fault::ReadFault;
+use crate::fault::ReadFaultFromStream;
+use crate::fault::StreamFault;
+use crate::order::Order;
+use crate::read::read_order;
+
+// How many orders a stream has, or the first fault and where it is.
+pub fn count_orders(bytes: &[u8]) -> Result<usize, StreamFault>
+    ensures as_defined { λ r. ⌜ r ≡ countAnswer (now (bytes .entry)) ⌝ }
+    ensures written_up_to_the_fault { λ _. ⌜ Splits (now (bytes .entry)) (parse (now (bytes .entry))) ⌝ }
+{
+    let mut rest = bytes;
+    let mut count: usize = 0;
+    while !rest.is_empty() {
+        match read_order(rest) {
+            Ok((_, after)) => rest = after,
+            Err(cause) => {
+                return Err(StreamFault {
+                    index: count,
+                    byte: bytes.len() - rest.len(),
+                    cause,
+                });
+            }
+        }
+        count += 1;
+    }
+    Ok(count)
+}
+
+// Writes the orders of a stream without a fault to the front of `out`.
+fn fill(bytes: &[u8], out: &mut [Order])
+    requires sound { ⌜ parse (now bytes) .fault ≡ None ⌝ }
+    requires room { ⌜ length (parse (now bytes) .orders) ≤ length (now out) ⌝ }
+    ensures after { λ _. ⌜ now (out .exit) ≡ parse (now (bytes .entry)) .orders ++ drop (length (parse (now (bytes .entry)) .orders)) (now (out .entry)) ⌝ }
+{
+    let mut rest = bytes;
+    let mut at = 0;
+    while let Ok((order, after)) = read_order(rest) {
+        out[at] = order;
+        at += 1;
+        rest = after;
+    }
+}
+
+// Reads the orders of a stream into the front of `out`, and says how many they are. Where the stream
+// has a fault, or else `out` is too short, nothing is written.
+pub fn read_orders(bytes: &[u8], out: &mut [Order]) -> Result<usize, ReadFault>
+    ensures as_defined { λ r. ⌜ r ≡ readAnswer (now (bytes .entry)) (length (now (out .entry))) ⌝ }
+    ensures cells_after { λ r. ⌜ now (out .exit) ≡ readLeaves (parse (now (bytes .entry)) .orders) r (now (out .entry)) ⌝ }
+    ensures what_the_writer_makes { λ r. ⌜ made r (λ n. encodeAll (take n (now (out .exit))) ≡ now (bytes .entry)) ⌝ }
+{
+    let count = count_orders(bytes)?;
+    if count > out.len() {
+        return Err(ReadFault::TooShort);
+    }
+    fill(bytes, out);
+    Ok(count)
+}
