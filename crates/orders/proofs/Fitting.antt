@@ -7,13 +7,14 @@ use native.Mathlib.Omega.{arith}
 use lib.IntN.{ℤ, pos, negsuc}
 use lib.ListN.{length}
 use Rattle.std.proofs.shelf.Digits.{numberAfter-append}
+use Rattle.std.proofs.shelf.Lists.{length-append}
 use Rattle.std.proofs.shelf.Tests.{and-parts}
 use Rattle.std.proofs.shelf.Ways.{tells}
 use Rattle.std.specs.shelf.Digits.{numberAfter}
 use Rattle.std.specs.shelf.Lists.{joined}
 use Rattle.orders.specs.declared.order.Order.{Order}
 use Rattle.orders.specs.declared.order.Order.the-variants.{Set, Lift, Move, PlanFor, PlanWithin}
-use Rattle.orders.specs.Writing.{allFit, encode, encodeAll, fieldsOf, fits, sizeOf, twos}
+use Rattle.orders.specs.Writing.{allFit, encode, encodeAll, fieldsOf, fits, sizeAll, sizeOf, twos}
 use Rattle.orders.specs.Numbers.{appended, bytesOf}
 use Rattle.orders.proofs.Packing.{Narrow, widthIn, length-bytesIn, number-after, packed-number}
 
@@ -77,6 +78,10 @@ size-some (PlanWithin l) = omega arith
 pub length-encode : (o : Order) → length (encode o) ≡ sizeOf o
 unfolding encode
 length-encode o = length-bytesIn (sizeOf o) _
+
+pub length-encodeAll : (os : List Order) → length (encodeAll os) ≡ sizeAll os
+length-encodeAll [] = refl
+length-encodeAll (o ∷ os) = length-append (encode o) (encodeAll os) ∙ omega (arith, length-encode o, length-encodeAll os)
 
 -- an order's bytes are those of one number
 pub encode-number : (o : Order) → Fit o → encode o ≡ bytesOf (sizeOf o) (appended 0 (fieldsOf o))

@@ -55,6 +55,11 @@ parse-more bs o rest e = parse-step bs (read-some bs o rest e) ∙ ap (λ r. and
 pub parse-fault : (bs : List ℕ) (e : OrderFault) → 0 < length bs → Err e ≡ read bs → parse bs ≡ record { orders = []; fault = Some e }
 parse-fault bs e some h = parse-step bs some ∙ ap (λ r. andThen r parse) (sym h)
 
+-- where no order can be read, the stream has none
+pub parse-stops : (bs : List ℕ) (e : OrderFault) → Err e ≡ read bs → parse bs .orders ≡ []
+parse-stops [] e h = ap (λ p. p .orders) parse-none
+parse-stops (b ∷ bs) e h = ap (λ p. p .orders) (parse-fault (b ∷ bs) e (omega arith) h)
+
 -- orders that fit their fields come back
 pub comes-back : (os : List Order) → allFit os ≡ true → parse (encodeAll os) ≡ record { orders = os; fault = None }
 comes-back [] h = parse-none
@@ -101,7 +106,7 @@ size-of (suc (suc (suc (suc zero)))) bs few = refl
 size-of (suc (suc (suc (suc (suc k))))) bs few = absurd (omega arith)
 
 -- an order takes the bytes that it was read from
-read-size : (bs : List ℕ) (o : Order) (rest : List ℕ) → Ok (o, rest) ≡ read bs → sizeOf o + length rest ≡ length bs
+pub read-size : (bs : List ℕ) (o : Order) (rest : List ℕ) → Ok (o, rest) ≡ read bs → sizeOf o + length rest ≡ length bs
 read-size bs o rest e =
     let r = read-inv bs o rest (sym e) in
     let size = ap sizeOf (r .names) ∙ size-of (kindIn bs) bs (r .few) in
