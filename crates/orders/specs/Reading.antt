@@ -1,7 +1,7 @@
 -- The order at the front of a list of bytes. Assumes nothing.
 use mathlib.Core.Bool.{cond}
 use mathlib.Core.List.{List, [], _∷_}
-use Prim.Native.Nat.{ℕ, _+_, _-_, _*_, _/_}
+use Prim.Native.Nat.{ℕ, _+_, _-_, _*_, _/_, _^_}
 use lib.Dec.{eqb, ltb}
 use lib.IntN.{ℤ, pos, negsuc}
 use lib.ListN.{length, drop}
@@ -19,7 +19,7 @@ use Rattle.orders.specs.Bits.{fieldAt}
 
 -- 20 bits in two's complement: from 2 ^ 19 on, n stands for n - 2 ^ 20
 abbrev pub signed : ℕ → ℤ
-signed n = cond (ltb n 524288) (pos n) (negsuc (1048575 - n))
+signed n = cond (ltb n (2 ^ 19)) (pos n) (negsuc (2 ^ 20 - 1 - n))
 
 -- the fields of an order that begins at bit 0
 abbrev pub kindIn : List ℕ → ℕ

@@ -30,10 +30,10 @@ unfoldable pub bytesIn : ℕ → List ℕ → List ℕ
 bytesIn zero bits = []
 bytesIn (suc n) bits = number 2 (take 8 bits) ∷ bytesIn n (drop 8 bits)
 
--- the 20 bits of an integer in two's complement, as a number: -1 is 2 ^ 20 - 1
+-- the 20 bits of an integer in two's complement, as a number; `negsuc n` is -(n + 1)
 abbrev pub twos : ℤ → ℕ
 twos (pos n) = n
-twos (negsuc n) = 1048575 - n
+twos (negsuc n) = 2 ^ 20 - 1 - n
 
 -- an order's fields: its kind, what it says, and zero bits up to a whole byte
 abbrev pub fieldsOf : Order → List (ℕ × ℕ)
@@ -58,9 +58,9 @@ encode o = bytesIn (sizeOf o) (packed (fieldsOf o))
 abbrev pub encodeAll : List Order → List ℕ
 encodeAll os = joined encode os
 
--- 20 bits hold the integer in two's complement
+-- 20 bits hold the integer in two's complement: it is from -2 ^ 19 up to 2 ^ 19 - 1
 abbrev pub inTwos : ℤ → Bool
-inTwos h = leZ (negsuc 524287) h && ltZ h (pos 524288)
+inTwos h = leZ (negsuc (2 ^ 19 - 1)) h && ltZ h (pos (2 ^ 19))
 
 -- each field holds its value
 abbrev pub fits : Order → Bool

@@ -66,3 +66,26 @@ impl BitReader<'_> {
         Ok(value)
     }
 }
+
+#[cfg(test)]
+mod tests {
+    use super::*;
+    use crate::fault::BitFaultDebug;
+    use crate::fault::BitFaultPartialEq;
+    use std::test::*;
+
+    #[test]
+    fn reads_fields_up_to_the_end() -> Result<(), Fail> {
+        let mut reader = BitReader {
+            bytes: &[0b1010_0000, 0b1111_1111],
+            at: 0,
+        };
+        check_eq(reader.field(3), Ok(0b101))?;
+        check_eq(reader.field(65), Err(BitFault::Ends))?;
+        check_eq(reader.field(14), Err(BitFault::Ends))?;
+        check_eq(reader.at, 3)?;
+        check_eq(reader.field(13), Ok(0b0_0000_1111_1111))?;
+        check_eq(reader.field(0), Ok(0))?;
+        check_eq(reader.at, 16)
+    }
+}

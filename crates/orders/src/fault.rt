@@ -115,3 +115,25 @@ impl WriteFault {
         }
     }
 }
+
+#[cfg(test)]
+mod tests {
+    use super::*;
+    use std::test::*;
+
+    #[test]
+    fn numbers_the_faults() -> Result<(), Fail> {
+        let fault = StreamFault {
+            index: 3,
+            byte: 9,
+            cause: OrderFault::Padding,
+        };
+        check_eq(OrderFault::Kind(6).number(), 10)?;
+        check_eq(OrderFault::Bits(BitFault::Ends).number(), 11)?;
+        check_eq(fault.number(), 12)?;
+        check_eq(ReadFault::Stream(fault).number(), 12)?;
+        check_eq(ReadFault::TooShort.number(), 14)?;
+        check_eq(WriteFault::TooWide.number(), 13)?;
+        check_eq(WriteFault::TooShort.number(), 14)
+    }
+}

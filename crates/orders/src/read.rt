@@ -4,6 +4,7 @@ ghost use mathlib.Core.List.{_++_};
 ghost use Prim.Native.Nat.{_+_, _*_, _<_, _≤_, _^_};
 ghost use lib.ListN.{length};
 ghost use Rattle.std.specs.Vec.{made};
+ghost use Rattle.orders.specs.declared.order.Order.the-variants.{Set, Move};
 ghost use Rattle.orders.specs.Reading.{signed, placeRead, widthOf, fieldsRead, paddingAfter, paddingRead, read, plain};
 ghost use Rattle.orders.specs.Writing.{encode};
 use crate::bits::BitReader;
@@ -13,10 +14,33 @@ use crate::fault::OrderFaultFromBits;
 use crate::order::Order;
 
 // What a set and a move say.
+#[derive(Drop)]
 struct Place {
     gate: u8,
     distance: u32,
     height: i32,
+}
+
+impl Place {
+    fn to_set(&self) -> Order
+        ensures value { λ r. ⌜ r ≡ Set (now (self .entry) .gate) (now (self .entry) .distance) (now (self .entry) .height) ⌝ }
+    {
+        Order::Set {
+            gate: self.gate,
+            distance: self.distance,
+            height: self.height,
+        }
+    }
+
+    fn to_move(&self) -> Order
+        ensures value { λ r. ⌜ r ≡ Move (now (self .entry) .gate) (now (self .entry) .distance) (now (self .entry) .height) ⌝ }
+    {
+        Order::Move {
+            gate: self.gate,
+            distance: self.distance,
+            height: self.height,
+        }
+    }
 }
 
 // A number of 20 bits in two's complement.
@@ -56,33 +80,11 @@ fn read_fields(reader: &mut BitReader, kind: u8) -> Result<Order, OrderFault>
     ensures moved { λ r. ⌜ made r (λ _. (now (reader .exit) .at ≡ widthOf kind) × (widthOf kind ≤ 8 * length (now (now (reader .entry) .bytes)))) ⌝ }
 {
     match kind {
-        0 => {
-            let Place {
-                gate,
-                distance,
-                height,
-            } = read_place(reader)?;
-            Ok(Order::Set {
-                gate,
-                distance,
-                height,
-            })
-        }
+        0 => Ok(read_place(reader)?.to_set()),
         1 => Ok(Order::Lift {
             gate: reader.field(8)? as u8,
         }),
-        2 => {
-            let Place {
-                gate,
-                distance,
-                height,
-            } = read_place(reader)?;
-            Ok(Order::Move {
-                gate,
-                distance,
-                height,
-            })
-        }
+        2 => Ok(read_place(reader)?.to_move()),
         3 => Ok(Order::PlanFor {
             zones: reader.field(6)? as u8,
         }),
@@ -120,4 +122,31 @@ pub fn read_order(bytes: &[u8]) -> Result<(Order, &[u8]), OrderFault>
     let order = read_fields(&mut reader, *first >> 5)?;
     read_padding(&mut reader)?;
     Ok((order, &rest[reader.at / 8 - 1..]))
+}
+
+#[cfg(test)]
+mod tests {
+    use super::*;
+    use crate::fault::OrderFaultDebug;
+    use crate::fault::OrderFaultPartialEq;
+    use crate::order::OrderDebug;
+    use crate::order::OrderPartialEq;
+    use std::test::*;
+
+    #[test]
+    fn answers_the_order_and_the_rest() -> Result<(), Fail> {
+        let (order, rest) = read_order(&[0x61, 0x00, 0xa0])?;
+        check_eq(order, Order::PlanFor { zones: 2 })?;
+        check_eq(rest, &[0xa0])
+    }
+
+    #[test]
+    fn names_the_faults() -> Result<(), Fail> {
+        check_eq(read_order(&[]), Err(OrderFault::Bits(BitFault::Ends)))?;
+        check_eq(read_order(&[0xa0]), Err(OrderFault::Kind(5)))?;
+        check_eq(read_order(&[0xdf, 0xff]), Err(OrderFault::Kind(6)))?;
+        check_eq(read_order(&[0xe0]), Err(OrderFault::Kind(7)))?;
+        check_eq(read_order(&[0x61]), Err(OrderFault::Bits(BitFault::Ends)))?;
+        check_eq(read_order(&[0x61, 0x01]), Err(OrderFault::Padding))
+    }
 }

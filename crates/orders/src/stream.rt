@@ -65,3 +65,40 @@ pub fn read_orders(bytes: &[u8], out: &mut [Order]) -> Result<usize, ReadFault>
     fill(bytes, out);
     Ok(count)
 }
+
+#[cfg(test)]
+mod tests {
+    use super::*;
+    use crate::fault::OrderFault;
+    use crate::fault::ReadFaultDebug;
+    use crate::fault::ReadFaultPartialEq;
+    use crate::order::OrderDebug;
+    use crate::order::OrderPartialEq;
+    use std::test::*;
+
+    // lift gate 1, and plan for 2
+    const TWO_ORDERS: [u8; 4] = [0x20, 0x20, 0x61, 0x00];
+
+    #[test]
+    fn leaves_later_cells() -> Result<(), Fail> {
+        let mut out = [Order::Lift { gate: 7 }; 3];
+        check_eq(read_orders(&TWO_ORDERS, &mut out), Ok(2))?;
+        check_eq(out[0], Order::Lift { gate: 1 })?;
+        check_eq(out[1], Order::PlanFor { zones: 2 })?;
+        check_eq(out[2], Order::Lift { gate: 7 })
+    }
+
+    #[test]
+    fn refuses_faults_before_few_cells() -> Result<(), Fail> {
+        let mut out = [Order::Lift { gate: 7 }; 1];
+        check_eq(read_orders(&TWO_ORDERS, &mut out), Err(ReadFault::TooShort))?;
+        let fault = StreamFault {
+            index: 2,
+            byte: 4,
+            cause: OrderFault::Kind(5),
+        };
+        let bytes = [0x20, 0x20, 0x61, 0x00, 0xa0];
+        check_eq(read_orders(&bytes, &mut out), Err(ReadFault::Stream(fault)))?;
+        check_eq(out, [Order::Lift { gate: 7 }])
+    }
+}

@@ -104,14 +104,14 @@ fn height_bits(height: i32) -> u64
     }
 }
 
-// A number with one more field after its bits.
-fn append(number: u64, width: u32, value: u64) -> u64
+// The bits so far as a number, with one more field after them.
+fn append(front: u64, width: u32, value: u64) -> u64
     requires wide { ⌜ width < 64 ⌝ }
     requires small { ⌜ value < 2 ^ width ⌝ }
-    requires room { ⌜ number * 2 ^ width < 2 ^ 64 ⌝ }
-    ensures value { λ r. ⌜ r ≡ number * 2 ^ width + value ⌝ }
+    requires room { ⌜ front * 2 ^ width < 2 ^ 64 ⌝ }
+    ensures value { λ r. ⌜ r ≡ front * 2 ^ width + value ⌝ }
 {
-    number << width | value
+    front << width | value
 }
 
 // The number of a set or a move.
@@ -121,10 +121,10 @@ fn place_number(kind: u64, gate: u8, distance: u32, height: i32) -> u64
     requires short { ⌜ inTwos height ≡ true ⌝ }
     ensures value { λ r. ⌜ r ≡ (((kind * 2 ^ 8 + gate) * 2 ^ 20 + distance) * 2 ^ 20 + twos height) * 2 ^ 5 + 0 ⌝ }
 {
-    let number = append(kind, 8, gate as u64);
-    let number = append(number, 20, distance as u64);
-    let number = append(number, 20, height_bits(height));
-    append(number, 5, 0)
+    let front = append(kind, 8, gate as u64);
+    let front = append(front, 20, distance as u64);
+    let front = append(front, 20, height_bits(height));
+    append(front, 5, 0)
 }
 
 // Writes the lowest `size` bytes of a number from `at` on, the most significant first.
@@ -186,4 +186,74 @@ pub fn write_orders(orders: &[Order], out: &mut [u8]) -> Result<usize, WriteFaul
         at += size;
     }
     Ok(at)
+}
+
+#[cfg(test)]
+mod tests {
+    use super::*;
+    use crate::fault::WriteFaultDebug;
+    use crate::fault::WriteFaultPartialEq;
+    use std::test::*;
+
+    const TWO_ORDERS: [Order; 2] = [
+        Order::Set {
+            gate: 1,
+            distance: 0,
+            height: 900,
+        },
+        Order::PlanFor { zones: 2 },
+    ];
+
+    #[test]
+    fn leaves_later_bytes() -> Result<(), Fail> {
+        let mut out = [0xee; 10];
+        check_eq(write_orders(&TWO_ORDERS, &mut out), Ok(9))?;
+        check_eq(
+            out,
+            [0x00, 0x20, 0x00, 0x00, 0x00, 0x70, 0x80, 0x61, 0x00, 0xee],
+        )
+    }
+
+    #[test]
+    fn refuses_a_short_buffer() -> Result<(), Fail> {
+        let mut out = [0xee; 8];
+        check_eq(
+            write_orders(&TWO_ORDERS, &mut out),
+            Err(WriteFault::TooShort),
+        )?;
+        check_eq(out, [0xee; 8])
+    }
+
+    // Each value is one past what its field holds, and the buffer is too short as well.
+    #[test]
+    fn refuses_wide_values_before_a_short_buffer() -> Result<(), Fail> {
+        let wide = [
+            Order::Set {
+                gate: 0,
+                distance: 1_048_576,
+                height: 0,
+            },
+            Order::Set {
+                gate: 0,
+                distance: 0,
+                height: 524_288,
+            },
+            Order::Move {
+                gate: 0,
+                distance: 0,
+                height: -524_289,
+            },
+            Order::PlanFor { zones: 64 },
+            Order::PlanWithin {
+                limit: 8_796_093_022_208,
+            },
+        ];
+        for order in wide {
+            let mut out = [0xee; 3];
+            let orders = [Order::Lift { gate: 1 }, order];
+            check_eq(write_orders(&orders, &mut out), Err(WriteFault::TooWide))?;
+            check_eq(out, [0xee; 3])?;
+        }
+        Ok(())
+    }
 }

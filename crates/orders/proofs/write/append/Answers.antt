@@ -5,4 +5,4 @@ use Rattle.std.proofs.shelf.Bits.{or-shifted}
 use Rattle.orders.proofs.write.append.Needs as need
 
 pub returns : need.returns
-returns c = record { value = ap (λ n. bitOr n (c .args .value)) (mod-eq-of-lt (c .pre .room)) ∙ or-shifted (c .args .number) (c .args .width) (c .args .value) (c .pre .small) }
+returns c = record { value = ap (λ n. bitOr n (c .args .value)) (mod-eq-of-lt (c .pre .room)) ∙ or-shifted (c .args .front) (c .args .width) (c .args .value) (c .pre .small) }
