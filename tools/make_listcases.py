@@ -72,11 +72,12 @@ CASES = {
     "padding_of_lift": stream([], "20 30", 12),
     "padding_of_move": stream([lift(7)], "40 40 09 60 ff 0c 10", 12),
     "padding_of_plan_for": stream([], "61 01", 12),
+    "first_padding_bit": stream([], "61 40", 12),
     "padding_of_plan_within": stream([], "80 00 00 7a 12 02", 12),
     "stops_at_the_first_fault": stream([plan_for(2)], "61 01 61 00 a0", 12),
     "extremes": stream(EXTREMES),
     "longest": stream(FULL),
-    "longest_with_a_fault": stream([], "a0" + "00" * 4095, 10),
+    "longest_with_a_fault": stream(FULL[:-1], "61 01", 12),
     "one_byte_more": (stream(FULL)[0] + b"\x20", ["LONG"]),
 }
 

@@ -4,7 +4,7 @@ use listing::read_input;
 use std::error::AnyError;
 use std::fs::File;
 
-static CASES: [&str; 21] = [
+static CASES: [&str; 22] = [
     "five",
     "five_then_kind_5",
     "empty",
@@ -20,6 +20,7 @@ static CASES: [&str; 21] = [
     "padding_of_lift",
     "padding_of_move",
     "padding_of_plan_for",
+    "first_padding_bit",
     "padding_of_plan_within",
     "stops_at_the_first_fault",
     "extremes",

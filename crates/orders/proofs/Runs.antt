@@ -1,17 +1,13 @@
 -- Laws of `bitAt` and `fieldAt`. Assumes nothing.
 use mathlib.Core.Path.{_≡_, refl}
-use mathlib.Core.Bool.{true}
 use mathlib.Core.List.{List}
 use Prim.Native.Nat.{ℕ, zero, suc, _+_, _-_, _*_, _%_, _^_, _≤_, _<_}
 use native.Mathlib.Nat.{pow-suc}
 use native.Mathlib.Omega.{arith}
 use lib.Bits.{bitOr}
-use lib.ListN.{length}
 use lib.Pow.{pow-mono}
 use Rattle.std.proofs.shelf.Bits.{or-shifted}
-use Rattle.std.proofs.shelf.Ways.{tells}
-use Rattle.std.specs.declared.option.Option.the-variants.{Some}
-use Rattle.orders.specs.Bits.{bitAt, fieldAt, readable, endAfter}
+use Rattle.orders.specs.Bits.{bitAt, fieldAt}
 
 bit-small : (bs : List ℕ) (i : ℕ) → bitAt bs i < 2
 unfolding bitAt
@@ -36,13 +32,3 @@ field-more bs from i v b low high e h =
     let one : b < 2 ^ 1 = omega (arith, bit-small bs i) in
     let whole : v * 2 % 2 ^ 64 ≡ v * 2 ^ 1 = omega arith in
     rw (next, back, whole, or-shifted v 1 b one) (rw (e, h) refl)
-
--- what is known where the next w bits can be read
-pub record Within (bs : List ℕ) (from w end : ℕ) : Type 0 where
-  pub ends : end ≡ from + w
-  pub long : from + w ≤ 8 * length bs
-  pub narrow : w ≤ 64
-  pub test : readable bs from w ≡ true
-
-pub within : (bs : List ℕ) (from w end : ℕ) → Some end ≡ endAfter bs from w → Within bs from w end
-within bs from w end e = record { ends = grind (arith, tells); long = grind (arith, tells); narrow = grind (arith, tells); test = grind (arith, tells) }

@@ -206,14 +206,7 @@ filled-more os was out i o next room e =
     ∙ sym (append-assoc (take i os) (o ∷ []) (drop (i + 1) was))
     ∙ ap (λ l. l ++ drop (i + 1) was) (sym (next .front))
 
--- the answers of a count
-module _ {bs rest : List ℕ} {i : ℕ} where
-  pub counted-fault : {e : OrderFault} → Ended bs rest i (Some e) → Err record { index = i; byte = length bs - length rest; cause = e } ≡ countAnswer bs
-  counted-fault d = rw (d .fault, d .bytes, d .count)
-
-  pub counted-all : Ended bs rest i None → Ok i ≡ countAnswer bs
-  counted-all d = rw (d .fault, d .count)
-
+-- what a count without a fault says
 counted-inv : (f : Option OrderFault) (os : List Order) (n : ℕ) → Ok n ≡ counted f os → (f ≡ None) × (n ≡ length os)
 counted-inv None os n e = (refl, cc)
 counted-inv (Some x) os n e = let z : _≡_ {A = ℕ} 0 1 = cc in absurd (omega arith)

@@ -32,18 +32,18 @@ read-bytes n v k o rest some kind few whole names none =
     let pad : ℕ = paddingAfter (widthOf k) in
     let ends : widthOf k + pad ≡ 8 * n = omega arith in
     let last : 8 * n - (widthOf k + pad) ≡ 0 = omega arith in
-    let left : pad ≡ 8 * n - widthOf k = omega arith in
+    let under : pad ≡ 8 * n - widthOf k = omega arith in
     let fields : Ok o ≡ fieldsRead k bs = sym (cond-false _ _ _ (le-ltb 4 k (omega arith)) ∙ cond-false _ _ _ (le-ltb (8 * length bs) (widthOf k) (omega arith)) ∙ ap Ok names) in
     let zeros : fieldAt bs (widthOf k) pad ≡ 0 =
     field-of-bytes n v (widthOf k) pad rest (omega arith)
     ∙ ap (λ m. v / 2 ^ m % 2 ^ pad) last
     ∙ ap (λ m. m % 2 ^ pad) (div-one v)
-    ∙ ap (λ m. v % 2 ^ m) left
+    ∙ ap (λ m. v % 2 ^ m) under
     ∙ none
     in
-    sym (whole-order bs k (omega arith) first o (widthOf k) fields refl (sym (cond-true _ _ _ (eq-eqb _ 0 zeros))))
-    ∙ ap (λ m. Ok (o, drop m bs)) (sym whole)
-    ∙ ap (λ r. Ok (o, r)) (drop-at (bytesOf n v) rest n (length-bytesOf n v))
+    let told : read bs ≡ Ok (o, drop (wholeBytes (widthOf k)) bs) = sym (whole-order bs k (omega arith) first o (widthOf k) fields refl (sym (cond-true _ _ _ (eq-eqb _ 0 zeros)))) in
+    let left : drop (wholeBytes (widthOf k)) bs ≡ rest = ap (λ m. drop m bs) (sym whole) ∙ drop-at (bytesOf n v) rest n (length-bytesOf n v) in
+    told ∙ ap (λ r. Ok (o, r)) left
 
 -- the number of a set or a move, of kind k
 abbrev placed : ℕ → ℕ → ℕ → ℤ → ℕ

@@ -31,7 +31,7 @@ abbrev pub andThen : Result (Order × List ℕ) OrderFault → (List ℕ → Par
 andThen (Ok p) rest = withFirst (p .0) (rest (p .1))
 andThen (Err e) rest = record { orders = []; fault = Some e }
 
--- at most n orders of a stream
+-- the same, by at most n orders: the definition goes round n times
 unfoldable pub parseIn : ℕ → List ℕ → Parsed
 parseIn n [] = record { orders = []; fault = None }
 parseIn zero (b ∷ bs) = record { orders = []; fault = None }

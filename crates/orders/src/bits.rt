@@ -1,6 +1,6 @@
 // A reader of fields of bits, the most significant bit of each byte first.
 ghost use mathlib.Core.Path.{_≡_};
-ghost use Prim.Native.Nat.{_+_, _-_, _*_, _<_, _≤_, _^_};
+ghost use Prim.Native.Nat.{_+_, _*_, _<_, _≤_, _^_};
 ghost use lib.ListN.{length};
 ghost use Rattle.std.specs.Vec.{made};
 ghost use Rattle.orders.specs.Bits.{bitAt, fieldAt, endAfter, fieldRead, fieldEnd};
@@ -22,16 +22,17 @@ fn bit_at(bytes: &[u8], i: usize) -> u8
     bytes[i / 8] >> (7 - i % 8) & 1
 }
 
-// The number that the bits from `from` up to `end` write.
-fn number_in(bytes: &[u8], from: usize, end: usize) -> u64
-    requires forward { ⌜ from ≤ end ⌝ }
-    requires narrow { ⌜ end ≤ from + 64 ⌝ }
-    requires inside { ⌜ end ≤ 8 * length (now bytes) ⌝ }
-    ensures value { λ r. ⌜ r ≡ fieldAt (now (bytes .entry)) from (end - from) ⌝ }
-    ensures cut { λ r. ⌜ r ≡ cutFrom (now (bytes .entry)) from (end - from) ⌝ }
+// The number that the `width` bits from `from` on write.
+fn number_in(bytes: &[u8], from: usize, width: u32) -> u64
+    requires narrow { ⌜ width ≤ 64 ⌝ }
+    requires inside { ⌜ from + width ≤ 8 * length (now bytes) ⌝ }
+    requires counted { ⌜ from + width < 2 ^ 64 ⌝ }
+    ensures value { λ r. ⌜ r ≡ fieldAt (now (bytes .entry)) from width ⌝ }
+    ensures small { λ r. ⌜ r < 2 ^ width ⌝ }
+    ensures cut { λ r. ⌜ r ≡ cutFrom (now (bytes .entry)) from width ⌝ }
 {
     let mut value: u64 = 0;
-    for i in from..end {
+    for i in from..from + width as usize {
         value = value << 1 | bit_at(bytes, i) as u64;
     }
     value
@@ -61,7 +62,7 @@ impl BitReader<'_> {
         let Some(end) = self.end_of(width) else {
             return Err(BitFault::Ends);
         };
-        let value = number_in(self.bytes, self.at, end);
+        let value = number_in(self.bytes, self.at, width);
         self.at = end;
         Ok(value)
     }

@@ -4,19 +4,30 @@ ghost use mathlib.Core.List.{_++_};
 ghost use Prim.Native.Nat.{_≤_};
 ghost use lib.ListN.{length, take, drop};
 ghost use Rattle.std.specs.Vec.{made};
-ghost use Rattle.std.specs.declared.option.Option.the-variants.{None};
+ghost use Rattle.std.specs.declared.result.Result.the-variants.{Ok};
 ghost use Rattle.orders.specs.Streams.{parse, countAnswer, readAnswer, readLeaves, Splits};
-ghost use Rattle.orders.specs.Writing.{encodeAll};
+ghost use Rattle.orders.specs.Writing.{encodeAll, sizeAll};
+use crate::fault::OrderFault;
 use crate::fault::ReadFault;
 use crate::fault::ReadFaultFromStream;
 use crate::fault::StreamFault;
 use crate::order::Order;
 use crate::read::read_order;
 
-// How many orders a stream has, or the first fault and where it is.
-pub fn count_orders(bytes: &[u8]) -> Result<usize, StreamFault>
-    ensures as_defined { λ r. ⌜ r ≡ countAnswer (now (bytes .entry)) ⌝ }
-    ensures written_up_to_the_fault { λ _. ⌜ Splits (now (bytes .entry)) (parse (now (bytes .entry))) ⌝ }
+// The orders of a stream: how many there are, the bytes that they take, and the fault after them.
+#[derive(Drop)]
+struct Extent {
+    count: usize,
+    size: usize,
+    fault: Option<OrderFault>,
+}
+
+// Reads orders until the bytes end or have a fault.
+fn measure(bytes: &[u8]) -> Extent
+    ensures count { λ r. ⌜ r .count ≡ length (parse (now (bytes .entry)) .orders) ⌝ }
+    ensures size { λ r. ⌜ r .size ≡ sizeAll (parse (now (bytes .entry)) .orders) ⌝ }
+    ensures fault { λ r. ⌜ r .fault ≡ parse (now (bytes .entry)) .fault ⌝ }
+    ensures splits { λ _. ⌜ Splits (now (bytes .entry)) (parse (now (bytes .entry))) ⌝ }
 {
     let mut rest = bytes;
     let mut count: usize = 0;
@@ -24,23 +35,28 @@ pub fn count_orders(bytes: &[u8]) -> Result<usize, StreamFault>
         match read_order(rest) {
             Ok((_, after)) => rest = after,
             Err(cause) => {
-                return Err(StreamFault {
-                    index: count,
-                    byte: bytes.len() - rest.len(),
-                    cause,
-                });
+                return Extent {
+                    count,
+                    size: bytes.len() - rest.len(),
+                    fault: Some(cause),
+                };
             }
         }
         count += 1;
     }
-    Ok(count)
+    Extent {
+        count,
+        size: bytes.len(),
+        fault: None,
+    }
 }
 
-// Writes the orders of a stream without a fault to the front of `out`.
-fn fill(bytes: &[u8], out: &mut [Order])
-    requires sound { ⌜ parse (now bytes) .fault ≡ None ⌝ }
-    requires room { ⌜ length (parse (now bytes) .orders) ≤ length (now out) ⌝ }
-    ensures after { λ _. ⌜ now (out .exit) ≡ parse (now (bytes .entry)) .orders ++ drop (length (parse (now (bytes .entry)) .orders)) (now (out .entry)) ⌝ }
+// Writes the orders of a stream, of which there are `count`, to the front of `out`.
+fn fill(bytes: &[u8], count: usize, out: &mut [Order])
+    requires sound { ⌜ Ok count ≡ countAnswer (now bytes) ⌝ }
+    requires room { ⌜ count ≤ length (now out) ⌝ }
+    ensures after { λ _. ⌜ now (out .exit) ≡ parse (now (bytes .entry)) .orders ++ drop count (now (out .entry)) ⌝ }
+    ensures form { λ _. ⌜ encodeAll (take count (now (out .exit))) ≡ now (bytes .entry) ⌝ }
 {
     let mut rest = bytes;
     let mut at = 0;
@@ -48,6 +64,22 @@ fn fill(bytes: &[u8], out: &mut [Order])
         out[at] = order;
         at += 1;
         rest = after;
+    }
+}
+
+// How many orders a stream has, or the first fault and where it is.
+pub fn count_orders(bytes: &[u8]) -> Result<usize, StreamFault>
+    ensures as_defined { λ r. ⌜ r ≡ countAnswer (now (bytes .entry)) ⌝ }
+    ensures written_up_to_the_fault { λ _. ⌜ Splits (now (bytes .entry)) (parse (now (bytes .entry))) ⌝ }
+{
+    let extent = measure(bytes);
+    match extent.fault {
+        None => Ok(extent.count),
+        Some(cause) => Err(StreamFault {
+            index: extent.count,
+            byte: extent.size,
+            cause,
+        }),
     }
 }
 
@@ -62,14 +94,13 @@ pub fn read_orders(bytes: &[u8], out: &mut [Order]) -> Result<usize, ReadFault>
     if count > out.len() {
         return Err(ReadFault::TooShort);
     }
-    fill(bytes, out);
+    fill(bytes, count, out);
     Ok(count)
 }
 
 #[cfg(test)]
 mod tests {
     use super::*;
-    use crate::fault::OrderFault;
     use crate::fault::ReadFaultDebug;
     use crate::fault::ReadFaultPartialEq;
     use crate::order::OrderDebug;

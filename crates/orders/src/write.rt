@@ -1,15 +1,16 @@
 // Writes orders as a stream.
 ghost use mathlib.Core.Path.{_≡_};
 ghost use mathlib.Core.Bool.{true, _&&_};
+ghost use mathlib.Core.List.{_++_};
 ghost use Prim.Native.Nat.{_+_, _*_, _<_, _≤_, _^_};
 ghost use lib.Dec.{leb, ltb};
-ghost use lib.ListN.{length, take};
+ghost use lib.ListN.{length, take, drop};
 ghost use lib.Seq.{paste};
 ghost use Rattle.std.specs.Vec.{made};
 ghost use Rattle.std.specs.shelf.Digits.{number};
 ghost use Rattle.orders.specs.Numbers.{bytesOf, appended, numberOf};
 ghost use Rattle.orders.specs.Streams.{parse, WhollyRead};
-ghost use Rattle.orders.specs.Writing.{twos, fieldsOf, sizeOf, inTwos, fits, allFit, sizeAll, writeAnswer, writeLeaves};
+ghost use Rattle.orders.specs.Writing.{twos, fieldsOf, sizeOf, encodeAll, inTwos, fits, allFit, sizeAll, writeAnswer, writeLeaves};
 use crate::fault::WriteFault;
 use crate::order::Order;
 
@@ -165,6 +166,24 @@ fn have_room(orders: &[Order], room: usize) -> bool
     true
 }
 
+// Writes orders that fit their fields to the front of a buffer that has room for them.
+fn put_all(orders: &[Order], out: &mut [u8]) -> usize
+    requires fitting { ⌜ allFit (now orders) ≡ true ⌝ }
+    requires room { ⌜ sizeAll (now orders) ≤ length (now out) ⌝ }
+    ensures size { λ r. ⌜ r ≡ sizeAll (now (orders .entry)) ⌝ }
+    ensures after { λ r. ⌜ now (out .exit) ≡ encodeAll (now (orders .entry)) ++ drop r (now (out .entry)) ⌝ }
+    ensures back { λ r. ⌜ WhollyRead (now (orders .entry)) (parse (take r (now (out .exit)))) ⌝ }
+    ensures one_number { λ r. ⌜ number 256 (take r (now (out .exit))) ≡ numberOf (now (orders .entry)) ⌝ }
+{
+    let mut at = 0;
+    for order in orders {
+        let size = order.size();
+        put(out, at, size, order.as_number());
+        at += size;
+    }
+    at
+}
+
 // Writes the orders to the front of `out`, and says how many bytes they take. Where a field cannot
 // hold its value, or else `out` is too short, nothing is written.
 pub fn write_orders(orders: &[Order], out: &mut [u8]) -> Result<usize, WriteFault>
@@ -179,13 +198,7 @@ pub fn write_orders(orders: &[Order], out: &mut [u8]) -> Result<usize, WriteFaul
     if !have_room(orders, out.len()) {
         return Err(WriteFault::TooShort);
     }
-    let mut at = 0;
-    for order in orders {
-        let size = order.size();
-        put(out, at, size, order.as_number());
-        at += size;
-    }
-    Ok(at)
+    Ok(put_all(orders, out))
 }
 
 #[cfg(test)]

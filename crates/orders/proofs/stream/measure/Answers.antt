@@ -5,16 +5,14 @@ use borrow.Author.Needs.{needs}
 use borrow.Author.Tests.{true-eqb, false-eqb}
 use lib.ListN.{length}
 use Rattle.orders.proofs.Bytes.{bytes-typed}
-use Rattle.orders.proofs.Streams.{splits, reached-more, reached-fault, reached-all, reached-few, counted-fault, counted-all}
-use Rattle.orders.proofs.stream.count_orders.Needs as need
+use Rattle.orders.proofs.Streams.{splits, reached-more, reached-fault, reached-all, reached-few}
+use Rattle.orders.proofs.stream.measure.Needs as need
 
 pub returns-in-Err : need.returns-in-Err
 returns-in-Err c =
     let some : 0 < length (c .loop-rest .rest .now) = omega (arith, false-eqb _ 0 (c .loop-rest-test .ensures tt)) in
-    record {
-      as-defined = counted-fault (reached-fault (c .loop-rest .inv) (c .in-Err .cause) some (c .in-Err .ensures tt .as-defined));
-      written-up-to-the-fault = splits (c .args .bytes .now) (bytes-typed _ (c .typed .bytes));
-    }
+    let end = reached-fault (c .loop-rest .inv) (c .in-Err .cause) some (c .in-Err .ensures tt .as-defined) in
+    record { count = end .count; size = end .bytes; fault = sym (end .fault); splits = splits (c .args .bytes .now) (bytes-typed _ (c .typed .bytes)) }
 
 pub add-count : need.add-count
 add-count c = let few = reached-few (c .loop-rest .inv) in search needs
@@ -25,7 +23,5 @@ loop-rest-again c = reached-more (c .loop-rest .inv) _ _ (c .in-Ok .ensures tt .
 pub returns : need.returns
 returns c =
     let none : length (c .loop-rest .rest .now) ≡ 0 = true-eqb _ 0 (c .loop-rest-test .ensures tt) in
-    record {
-      as-defined = counted-all (reached-all (c .loop-rest .inv) none);
-      written-up-to-the-fault = splits (c .args .bytes .now) (bytes-typed _ (c .typed .bytes));
-    }
+    let end = reached-all (c .loop-rest .inv) none in
+    record { count = end .count; size = omega (arith, end .bytes); fault = sym (end .fault); splits = splits (c .args .bytes .now) (bytes-typed _ (c .typed .bytes)) }
