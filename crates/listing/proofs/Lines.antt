@@ -14,15 +14,12 @@ use Rattle.orders.specs.Streams.{parse, countAnswer}
 use Rattle.orders.specs.Writing.{encode, encodeAll, sizeOf, sizeAll}
 use Rattle.orders.proofs.Fitting.{length-encode, length-encodeAll}
 use Rattle.orders.proofs.Streams.{parse-more, parse-stops, read-size, splits}
-use Rattle.listing.specs.Listing.{orderLine, orderLines, closingLine, listing, Stands, EachStands}
+use Rattle.listing.specs.Listing.{orderLine, orderLines, closingLine, fullListing, EachStands}
 
 -- the text so far, with the lines of what is left, is the whole
 pub record Sofar (bs rest text : List ℕ) : Type 0 where
   pub inside : length rest ≤ length bs
   pub lines : text ++ orderLines (length bs - length rest) (parse rest .orders) ≡ orderLines 0 (parse bs .orders)
-
-pub sofar-none : (bs : List ℕ) → Sofar bs bs []
-sofar-none bs = record { inside = omega arith; lines = ap (λ n. orderLines n (parse bs .orders)) (omega arith) }
 
 module _ {bs rest text : List ℕ} (s : Sofar bs rest text) where
   pub sofar-more : (o : Order) (after line : List ℕ) → Ok (o, after) ≡ read rest → line ≡ orderLine (length bs - length rest) o → Sofar bs after (text ++ line)
@@ -68,17 +65,16 @@ bytes-at xs o ys rest bs e =
     ∙ ap (take (sizeOf o)) (drop-at (encodeAll xs) (encode o ++ behind) (sizeAll xs) (length-encodeAll xs))
     ∙ take-at (encode o) behind (sizeOf o) (length-encode o)
 
-pub each-stands : (bs : List ℕ) → Under 256 bs → EachStands bs (listing bs)
+pub each-stands : (bs : List ℕ) → Under 256 bs → EachStands bs (fullListing bs)
 each-stands bs u xs o ys e =
     let s = splits bs u in
     let tail : List ℕ = orderLines (sizeAll xs + sizeOf o) ys in
     record {
-      above = orderLines 0 xs;
       below = tail ++ closingLine (countAnswer bs);
       line =
           ap (λ os. orderLines 0 os ++ closingLine (countAnswer bs)) e
           ∙ ap (λ l. l ++ closingLine (countAnswer bs)) (lines-append 0 xs (o ∷ ys) ∙ ap (λ n. orderLines 0 xs ++ orderLines n (o ∷ ys)) (omega arith))
           ∙ append-assoc (orderLines 0 xs) (orderLine (sizeAll xs) o ++ tail) _
           ∙ ap (λ l. orderLines 0 xs ++ l) (append-assoc (orderLine (sizeAll xs) o) tail _);
-      bytes = bytes-at xs o ys (s .rest) bs (ap (λ os. encodeAll os ++ s .rest) (sym e) ∙ s .bytes);
+      bytes = bytes-at xs o ys (s .rest) bs (ap (λ os. encodeAll os ++ s .rest) (sym e) ∙ s .front .bytes);
     }

@@ -45,20 +45,23 @@ closingLine (Ok n) = lineOf (decimal n ∷ codes "orders" ∷ [])
 closingLine (Err e) = lineOf (decimal (e .index) ∷ codes "orders" ∷ (codes "!" ++ decimal (streamFaultNumber e)) ∷ decimal (e .byte) ∷ [])
 
 -- a stream in full
-abbrev pub listing : List ℕ → List ℕ
-listing bs = orderLines 0 (parse bs .orders) ++ closingLine (countAnswer bs)
+abbrev pub fullListing : List ℕ → List ℕ
+fullListing bs = orderLines 0 (parse bs .orders) ++ closingLine (countAnswer bs)
 
--- an order's line is in the text, and the order's bytes are in the stream at the byte that the line tells
-pub record Stands (bs text : List ℕ) (at : ℕ) (o : Order) : Type 0 where
-  pub above : List ℕ
+-- after the lines of the orders before it, an order has its line in the text, and its bytes are in the stream at the byte that this line tells
+pub record Stands (bs text : List ℕ) (before : List Order) (o : Order) : Type 0 where
   pub below : List ℕ
-  pub line : text ≡ above ++ (orderLine at o ++ below)
-  pub bytes : take (sizeOf o) (drop at bs) ≡ encode o
+  pub line : text ≡ orderLines 0 before ++ (orderLine (sizeAll before) o ++ below)
+  pub bytes : take (sizeOf o) (drop (sizeAll before) bs) ≡ encode o
 
 -- so with every order of the stream, wherever it stands among the others
 abbrev pub EachStands : List ℕ → List ℕ → Type 0
-EachStands bs text = (xs : List Order) (o : Order) (ys : List Order) → parse bs .orders ≡ xs ++ o ∷ ys → Stands bs text (sizeAll xs) o
+EachStands bs text = (before : List Order) (o : Order) (after : List Order) → parse bs .orders ≡ before ++ o ∷ after → Stands bs text before o
 
--- a stream of more than 4,096 bytes is not listed
-abbrev pub shortListing : List ℕ → List ℕ
-shortListing bs = cond (ltb 4096 (length bs)) (codes "LONG\n") (listing bs)
+-- how many bytes a stream that is listed has at most
+abbrev pub longest : ℕ
+longest = 4096
+
+-- what is told of a stream: all of it, unless it is too long
+abbrev pub listing : List ℕ → List ℕ
+listing bs = cond (ltb longest (length bs)) (codes "LONG\n") (fullListing bs)

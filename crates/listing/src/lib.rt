@@ -1,11 +1,11 @@
 // Lists a stream of orders as text.
 ghost use mathlib.Core.Path.{_≡_};
-ghost use Prim.Native.Nat.{_≤_};
+ghost use Prim.Native.Nat.{_+_, _≤_};
 ghost use lib.ListN.{length};
 ghost use Rattle.std.specs.Of.String.{string-bytes};
 ghost use Rattle.std.specs.Of.Vec.{vec-len};
 ghost use Rattle.std.specs.Vec.{made};
-ghost use Rattle.listing.specs.Listing.{orderLine, orderLines, closingLine, shortListing, EachStands};
+ghost use Rattle.listing.specs.Listing.{orderLine, orderLines, closingLine, longest, listing, EachStands};
 ghost use Rattle.orders.specs.Streams.{parse};
 use orders::fault::StreamFault;
 use orders::order::Order;
@@ -72,8 +72,8 @@ fn order_lines(heap: Global, bytes: &[u8]) -> Result<String, AllocError>
 // The listing of a stream: a line for each order up to the first fault, and a closing line. A stream
 // that is too long for a head is not listed.
 pub fn list_stream(heap: Global, bytes: &[u8]) -> Result<String, AllocError>
-    ensures as_defined { λ r. ⌜ made r (λ s. string-bytes s ≡ shortListing (now (bytes .entry))) ⌝ }
-    ensures each_order_stands_where_told { λ r. ⌜ made r (λ s. length (now (bytes .entry)) ≤ 4096 → EachStands (now (bytes .entry)) (string-bytes s)) ⌝ }
+    ensures text_of_the_listing { λ r. ⌜ made r (λ s. string-bytes s ≡ listing (now (bytes .entry))) ⌝ }
+    ensures each_order_stands_where_told { λ r. ⌜ made r (λ s. length (now (bytes .entry)) ≤ longest → EachStands (now (bytes .entry)) (string-bytes s)) ⌝ }
 {
     if bytes.len() > LONGEST_STREAM {
         return String::from_str(heap, "LONG\n");
@@ -101,7 +101,7 @@ fn fill_from<R: Read>(input: &mut R, buffer: &mut [u8]) -> io::Result<usize>
 
 // Reads an input to its end, or to one byte more than the longest stream.
 pub fn read_input<R: Read>(heap: Global, input: &mut R) -> io::Result<Vec<u8>>
-    ensures bounded { λ r. ⌜ made r (λ v. vec-len v ≤ 4097) ⌝ }
+    ensures bounded { λ r. ⌜ made r (λ v. vec-len v ≤ longest + 1) ⌝ }
 {
     let mut bytes = vec![in heap; 0u8; LONGEST_STREAM + 1]?;
     let len = fill_from(input, &mut bytes)?;

@@ -2,7 +2,7 @@
 use mathlib.Core.Path.{_≡_, refl, sym, ap, subst, _∙_}
 use mathlib.Core.List.{List, [], _∷_, _++_}
 use Prim.Native.Nat.{ℕ, zero, suc, _+_, _-_, _*_, _/_, _%_, _^_, _≤_, _<_}
-use native.Mathlib.Nat.{pow-suc, div-one, add-mul, mul-assoc, mul-comm}
+use native.Mathlib.Nat.{pow-suc, div-one}
 use native.Mathlib.Omega.{arith}
 use lib.ListN.{length, getD, take, drop}
 use lib.Pow.{mod-mod-pow}
@@ -14,29 +14,16 @@ use Rattle.std.proofs.shelf.Elements.{all-take}
 use Rattle.std.proofs.shelf.Lists.{length-take-le, take-append-drop, append-nil}
 use Rattle.std.specs.shelf.Digits.{Under, number, numberAfter}
 use Rattle.orders.specs.Bits.{bitAt, fieldAt}
-use Rattle.orders.specs.Numbers.{bytesOf, cutFrom}
-
-pub length-bytesOf : (n v : ℕ) → length (bytesOf n v) ≡ n
-unfolding bytesOf
-length-bytesOf zero v = refl
-length-bytesOf (suc n) v = ap suc (length-bytesOf n v)
+use Rattle.orders.specs.Numbers.{cutFrom}
+use Rattle.orders.specs.Parts.{bytesOf, digits}
+use Rattle.orders.proofs.Appending.{cuts, total}
 
 -- byte j of the n bytes of v
 pub byte-of : (n v j : ℕ) (rest : List ℕ) → j < n → getD (bytesOf n v ++ rest) j 0 ≡ v / 2 ^ (8 * (n - 1 - j)) % 256
-unfolding bytesOf
+unfolding digits
 byte-of zero v j rest h = absurd (omega arith)
 byte-of (suc n) v zero rest h = ap (λ m. v / 2 ^ (8 * m) % 256) (omega arith)
 byte-of (suc n) v (suc j) rest h = byte-of n v j rest (omega arith) ∙ ap (λ m. v / 2 ^ (8 * m) % 256) (omega arith)
-
--- the n bytes of v say nothing of what stands above them
-pub bytes-low : (n m v : ℕ) → n ≤ m → bytesOf n (v % 2 ^ (8 * m)) ≡ bytesOf n v
-unfolding bytesOf
-bytes-low zero m v h = refl
-bytes-low (suc n) m v h =
-    let k : ℕ = 8 * (m - 1 - n) in
-    let split : 8 * m ≡ (k + 8) + 8 * n = omega arith in
-    let head : v % 2 ^ (8 * m) / 2 ^ (8 * n) % 256 ≡ v / 2 ^ (8 * n) % 256 = ap (λ e. v % 2 ^ e / 2 ^ (8 * n) % 256) split ∙ ap (λ q. q % 256) (field-of v (k + 8) (8 * n)) ∙ mod-mod-pow (v / 2 ^ (8 * n)) k 8 in
-    rw (head, bytes-low n m v (omega arith))
 
 -- bit r of the lowest byte
 bit-of-byte : (v r : ℕ) → r < 8 → v % 256 / 2 ^ r % 2 ≡ v / 2 ^ r % 2
@@ -55,7 +42,7 @@ bit-of n v i rest h =
     ∙ ap (λ k. v / 2 ^ k % 2) m
 
 -- a field of the n bytes of v
-pub field-of-bytes : (n v from w : ℕ) (rest : List ℕ) → from + w ≤ 8 * n → fieldAt (bytesOf n v ++ rest) from w ≡ v / 2 ^ (8 * n - (from + w)) % 2 ^ w
+field-of-bytes : (n v from w : ℕ) (rest : List ℕ) → from + w ≤ 8 * n → fieldAt (bytesOf n v ++ rest) from w ≡ v / 2 ^ (8 * n - (from + w)) % 2 ^ w
 unfolding fieldAt
 field-of-bytes n v from zero rest h = omega arith
 field-of-bytes n v from (suc w) rest h =
@@ -65,6 +52,19 @@ field-of-bytes n v from (suc w) rest h =
     let one : suc w ≡ w + 1 = omega arith in
     rw (field-of-bytes n v from w rest (omega arith), bit-of n v (from + w) rest (omega arith), up, same)
     (rw (← (shr-shr v m 1)) (sym (mod-pow-add (v / 2 ^ m) w 1) ∙ ap (λ k. v / 2 ^ m % 2 ^ k) (sym one)))
+
+-- the fields of the given widths, one after another from bit `from` on
+abbrev pub fieldsFrom : List ℕ → ℕ → List ℕ → List (ℕ × ℕ)
+fieldsFrom bs from [] = []
+fieldsFrom bs from (w ∷ ws) = (w, fieldAt bs from w) ∷ fieldsFrom bs (from + w) ws
+
+-- where they fill the n bytes of v, they are cut from v
+pub fields-cut : (n v : ℕ) (rest : List ℕ) (from : ℕ) (ws : List ℕ) → from + total ws ≡ 8 * n → fieldsFrom (bytesOf n v ++ rest) from ws ≡ cuts v ws
+fields-cut n v rest from [] e = refl
+fields-cut n v rest from (w ∷ ws) e =
+    let left : 8 * n - (from + w) ≡ total ws = omega arith in
+    let value : fieldAt (bytesOf n v ++ rest) from w ≡ v / 2 ^ total ws % 2 ^ w = field-of-bytes n v from w rest (omega arith) ∙ ap (λ k. v / 2 ^ k % 2 ^ w) left in
+    rw (value, fields-cut n v rest (from + w) ws (omega arith))
 
 -- the number that bytes write, cut back to what stood before them
 after-high : (xs : List ℕ) (a : ℕ) → Under 256 xs → numberAfter 256 a xs / 2 ^ (8 * length xs) ≡ a
@@ -76,7 +76,7 @@ after-high (x ∷ xs) a u =
     ap (λ k. v / 2 ^ k) m ∙ sym (shr-shr v (8 * length xs) 8) ∙ ap (λ q. q / 256) (after-high xs (a * 256 + x) (u .1)) ∙ omega arith
 
 bytes-of-number : (xs : List ℕ) (a : ℕ) → Under 256 xs → bytesOf (length xs) (numberAfter 256 a xs) ≡ xs
-unfolding bytesOf
+unfolding digits
 bytes-of-number [] a u = refl
 bytes-of-number (x ∷ xs) a u =
     let low = u .0 in
@@ -106,22 +106,6 @@ pub field-is-cut : (bs : List ℕ) (from w : ℕ) → Under 256 bs → from + w 
 field-is-cut bs from w u h =
     let is : bytesOf (length bs) (number 256 bs) ++ [] ≡ bs = append-nil (bytesOf (length bs) (number 256 bs)) ∙ bytes-of-number bs 0 u in
     ap (λ l. fieldAt l from w) (sym is) ∙ field-of-bytes (length bs) (number 256 bs) from w [] h
-
--- one more digit c-ary, before what is there
-pub shift-in : (c a x p m : ℕ) → (a * c + x) * p + m ≡ a * (p * c) + (x * p + m)
-shift-in c a x p m = omega (arith, add-mul (a * c) x p, mul-assoc a c p, ap (λ q. a * q) (mul-comm c p))
-
--- the number of the lowest n bytes of v, after that of other bytes
-pub number-of-bytes : (n v a : ℕ) → numberAfter 256 a (bytesOf n v) ≡ a * 2 ^ (8 * n) + v % 2 ^ (8 * n)
-unfolding bytesOf
-number-of-bytes zero v a = omega arith
-number-of-bytes (suc n) v a =
-    let m : 8 + 8 * n ≡ 8 * suc n = omega arith in
-    let p : 2 ^ (8 * n) * 256 ≡ 2 ^ (8 * suc n) = mul-comm (2 ^ (8 * n)) 256 ∙ sym (pow-add 2 8 (8 * n)) ∙ ap (λ k. 2 ^ k) m in
-    number-of-bytes n v (a * 256 + v / 2 ^ (8 * n) % 256)
-    ∙ shift-in 256 a (v / 2 ^ (8 * n) % 256) (2 ^ (8 * n)) (v % 2 ^ (8 * n))
-    ∙ ap (λ q. a * q + (v / 2 ^ (8 * n) % 256 * 2 ^ (8 * n) + v % 2 ^ (8 * n))) p
-    ∙ ap (λ q. a * 2 ^ (8 * suc n) + q) (sym (mod-pow-add v 8 (8 * n)) ∙ ap (λ k. v % 2 ^ k) m)
 
 -- what the type of a slice of bytes says
 pub bytes-typed : (bs : List ℕ) → ((i : ℕ) → Fits w8 (getD bs i 0)) → Under 256 bs

@@ -1,9 +1,10 @@
-pub mod Runs
+pub mod Appending
+pub mod Fields
 pub mod Reading
 pub mod Bytes
 pub mod Packing
 pub mod Fitting
-pub mod Trip
-pub mod Back
+pub mod WrittenIsRead
+pub mod ReadIsWritten
 pub mod Streams
-pub mod Turns
+pub mod WriterLoops

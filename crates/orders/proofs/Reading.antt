@@ -1,5 +1,5 @@
--- How `read` goes on where the code does. Assumes nothing.
-use mathlib.Core.Path.{_≡_, refl, sym, ap, _∙_}
+-- What `read` answers at each return of the reader of one order. Assumes nothing.
+use mathlib.Core.Path.{_≡_, sym, ap, _∙_}
 use mathlib.Core.List.{List, [], _∷_}
 use Prim.Native.Nat.{ℕ, _+_, _-_, _*_, _/_, _%_, _≤_, _<_}
 use native.Mathlib.Omega.{arith}
@@ -7,12 +7,12 @@ use lib.ListN.{length, getD, take, drop}
 use Rattle.std.proofs.shelf.Bits.{shr-shr}
 use Rattle.std.proofs.shelf.Lists.{take-rest, drop-drop}
 use Rattle.std.proofs.shelf.Ways.{tells}
-use Rattle.std.specs.declared.result.Result.{Result}
 use Rattle.std.specs.declared.result.Result.the-variants.{Ok, Err}
 use Rattle.orders.specs.declared.fault.OrderFault.{OrderFault}
 use Rattle.orders.specs.declared.order.Order.{Order}
 use Rattle.orders.specs.Bits.{bitAt, fieldAt}
-use Rattle.orders.specs.Reading.{kindIn, widthOf, fieldsRead, wholeBytes, paddingAfter, paddingRead, withRest, read}
+use Rattle.orders.specs.Parts.{paddingRead}
+use Rattle.orders.specs.Reading.{kindIn, widthOf, fieldsRead, wholeBytes, withRest, read}
 
 eighth : (q : ℕ) → q < 8 → q ≡ (q / 2 / 2 % 2 * 2 + q / 2 % 2) * 2 + q % 2
 eighth q h = omega arith
@@ -30,7 +30,7 @@ pub kind-top : (bs : List ℕ) → getD bs 0 0 < 256 → getD bs 0 0 / 32 ≡ ki
 unfolding bitAt fieldAt
 kind-top bs h = omega (arith, top-bits (getD bs 0 0) h)
 
-pub read-is : (bs : List ℕ) (k : ℕ) → 0 < length bs → k ≡ kindIn bs → read bs ≡ withRest (widthOf k) bs (fieldsRead k bs)
+read-is : (bs : List ℕ) (k : ℕ) → 0 < length bs → k ≡ kindIn bs → read bs ≡ withRest (widthOf k) bs (fieldsRead k bs)
 read-is [] k some kind = absurd (omega arith)
 read-is (b ∷ bs) k some kind = rw kind
 

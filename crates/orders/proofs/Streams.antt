@@ -3,7 +3,7 @@ use mathlib.Core.Path.{_≡_, refl, sym, ap, subst, _∙_}
 use mathlib.Core.Bool.{true}
 use mathlib.Core.List.{List, [], _∷_, _++_}
 use mathlib.Core.Logic.{_⊎_, inl, inr, ⊎-elim}
-use Prim.Native.Nat.{ℕ, zero, suc, _+_, _-_, _≤_, _<_}
+use Prim.Native.Nat.{ℕ, zero, suc, _+_, _-_, _*_, _≤_, _<_}
 use native.Mathlib.Omega.{arith}
 use lib.ListN.{length, getD, set, take, drop}
 use Rattle.std.proofs.shelf.Elements.{all-drop}
@@ -18,13 +18,13 @@ use Rattle.orders.specs.declared.fault.OrderFault.{OrderFault}
 use Rattle.orders.specs.declared.order.Order.{Order}
 use Rattle.orders.specs.Reading.{kindIn, widthOf, wholeBytes, orderOf, read}
 use Rattle.orders.specs.Writing.{encode, encodeAll, allFit, fits, sizeOf, sizeAll}
-use Rattle.orders.specs.Streams.{Parsed, withFirst, andThen, parseIn, parse, counted, countAnswer, EndsBy, Splits}
-use Rattle.orders.proofs.Back.{Read, read-inv, rest-shorter, read-back}
-use Rattle.orders.proofs.Fitting.{fit-from, fits-from, size-some}
-use Rattle.orders.proofs.Trip.{read-encode}
+use Rattle.orders.specs.Streams.{Parsed, withFirst, andThen, parseIn, parse, counted, countAnswer, Fronts, EndsBy, Splits}
+use Rattle.orders.proofs.ReadIsWritten.{read-inv, rest-shorter, read-back}
+use Rattle.orders.proofs.Fitting.{fit-from, fits-from, size-bounds}
+use Rattle.orders.proofs.WrittenIsRead.{read-encode}
 
 -- a stream's own equations
-pub parse-none : parse [] ≡ record { orders = []; fault = None }
+parse-none : parse [] ≡ record { orders = []; fault = None }
 unfolding parseIn
 parse-none = refl
 
@@ -40,7 +40,7 @@ parse-turns (suc m) zero (b ∷ bs) h k = absurd (omega arith)
 parse-turns (suc m) (suc n) (b ∷ bs) h k =
     then-same (read (b ∷ bs)) (parseIn m) (parseIn n) (λ o rest e. let s = rest-shorter (b ∷ bs) o rest e in parse-turns m n rest (omega arith) (omega arith))
 
-pub parse-step : (bs : List ℕ) → 0 < length bs → parse bs ≡ andThen (read bs) parse
+parse-step : (bs : List ℕ) → 0 < length bs → parse bs ≡ andThen (read bs) parse
 unfolding parseIn
 parse-step [] h = absurd (omega arith)
 parse-step (b ∷ bs) h = then-same (read (b ∷ bs)) (parseIn (length bs)) parse (λ o rest e. let s = rest-shorter (b ∷ bs) o rest e in parse-turns (length bs) (length rest) rest (omega arith) (omega arith))
@@ -52,7 +52,7 @@ read-some bs o rest e = let s = rest-shorter bs o rest (sym e) in omega arith
 pub parse-more : (bs : List ℕ) (o : Order) (rest : List ℕ) → Ok (o, rest) ≡ read bs → parse bs ≡ withFirst o (parse rest)
 parse-more bs o rest e = parse-step bs (read-some bs o rest e) ∙ ap (λ r. andThen r parse) (sym e)
 
-pub parse-fault : (bs : List ℕ) (e : OrderFault) → 0 < length bs → Err e ≡ read bs → parse bs ≡ record { orders = []; fault = Some e }
+parse-fault : (bs : List ℕ) (e : OrderFault) → 0 < length bs → Err e ≡ read bs → parse bs ≡ record { orders = []; fault = Some e }
 parse-fault bs e some h = parse-step bs some ∙ ap (λ r. andThen r parse) (sym h)
 
 -- where no order can be read, the stream has none
@@ -68,6 +68,12 @@ comes-back (o ∷ os) h =
     parse-more (encode o ++ encodeAll os) o (encodeAll os) (sym (read-encode o (encodeAll os) (fit-from o (both .0))))
     ∙ ap (withFirst o) (comes-back os (both .1))
 
+-- one order at the front of the bytes that it was read from
+pub read-front : (bs : List ℕ) (o : Order) (rest : List ℕ) → Under 256 bs → read bs ≡ Ok (o, rest) → Fronts (o ∷ []) rest bs
+read-front bs o rest u e =
+    let s = read-back bs o rest u e in
+    record { fit = and-from _ _ (fits-from o (s .fit)) refl; bytes = ap (λ l. l ++ rest) (append-nil (encode o)) ∙ s .bytes }
+
 -- the bytes of a stream are those of its orders, and then what ends it
 splits-by : (bs : List ℕ) (r : Result (Order × List ℕ) OrderFault) → r ≡ read bs → 0 < length bs → Under 256 bs → ((rest : List ℕ) → length rest < length bs → Under 256 rest → Splits rest (parse rest)) → Splits bs (parse bs)
 splits-by bs (Ok p) e some u tail =
@@ -76,14 +82,16 @@ splits-by bs (Ok p) e some u tail =
     let t = tail (p .1) (rest-shorter bs (p .0) (p .1) (sym e)) (subst (Under 256) (sym (r .left)) (all-drop (λ d. d < 256) _ bs u)) in
     subst (Splits bs) (sym (parse-more bs (p .0) (p .1) e)) record {
       rest = t .rest;
-      bytes = append-assoc (encode (p .0)) (encodeAll (parse (p .1) .orders)) (t .rest) ∙ ap (λ l. encode (p .0) ++ l) (t .bytes) ∙ s .bytes;
-      fit = and-from _ _ (fits-from (p .0) (s .fit)) (t .fit);
+      front = record {
+        fit = and-from _ _ (fits-from (p .0) (s .fit)) (t .front .fit);
+        bytes = append-assoc (encode (p .0)) (encodeAll (parse (p .1) .orders)) (t .rest) ∙ ap (λ l. encode (p .0) ++ l) (t .front .bytes) ∙ s .bytes;
+      };
       ends = t .ends;
     }
-splits-by bs (Err x) e some u tail = subst (Splits bs) (sym (parse-fault bs x some e)) record { rest = bs; bytes = refl; fit = refl; ends = sym e }
+splits-by bs (Err x) e some u tail = subst (Splits bs) (sym (parse-fault bs x some e)) record { rest = bs; front = record { fit = refl; bytes = refl }; ends = (some, sym e) }
 
 splits-in : (n : ℕ) (bs : List ℕ) → length bs ≤ n → Under 256 bs → Splits bs (parse bs)
-splits-in n [] h u = subst (Splits []) (sym parse-none) record { rest = []; bytes = refl; fit = refl; ends = refl }
+splits-in n [] h u = subst (Splits []) (sym parse-none) record { rest = []; front = record { fit = refl; bytes = refl }; ends = refl }
 splits-in zero (b ∷ bs) h u = absurd (omega arith)
 splits-in (suc n) (b ∷ bs) h u = splits-by (b ∷ bs) (read (b ∷ bs)) refl (omega arith) u (λ rest less v. splits-in n rest (omega arith) v)
 
@@ -91,11 +99,11 @@ pub splits : (bs : List ℕ) → Under 256 bs → Splits bs (parse bs)
 splits bs u = splits-in (length bs) bs (omega arith) u
 
 -- a stream without a fault is what the writer makes of its orders
-pub whole-form : (bs : List ℕ) → Under 256 bs → parse bs .fault ≡ None → encodeAll (parse bs .orders) ≡ bs
+pub whole-form : (bs : List ℕ) → Under 256 bs → parse bs .fault ≡ None → Fronts (parse bs .orders) [] bs
 whole-form bs u none =
     let s = splits bs u in
     let all : s .rest ≡ [] = subst (λ f. EndsBy f (s .rest)) none (s .ends) in
-    sym (append-nil (encodeAll (parse bs .orders))) ∙ ap (λ l. encodeAll (parse bs .orders) ++ l) (sym all) ∙ s .bytes
+    subst (λ l. Fronts (parse bs .orders) l bs) all (s .front)
 
 size-of : (k : ℕ) (bs : List ℕ) → k < 5 → sizeOf (orderOf k bs) ≡ wholeBytes (widthOf k)
 size-of zero bs few = refl
@@ -119,9 +127,6 @@ pub record Reached (bs rest : List ℕ) (i : ℕ) : Type 0 where
   pub bytes : sizeAll (take i (parse bs .orders)) + length rest ≡ length bs
   pub within : i ≤ length (parse bs .orders)
 
-pub reached-none : (bs : List ℕ) → Reached bs bs 0
-reached-none bs = record { left = refl; fault = refl; bytes = omega arith; within = omega arith }
-
 size-push : (os : List Order) (o : Order) → sizeAll (os ++ o ∷ []) ≡ sizeAll os + sizeOf o
 size-push [] o = omega arith
 size-push (p ∷ os) o = omega (arith, size-push os o)
@@ -140,9 +145,9 @@ cases-none : (n : ℕ) → (n ≡ 0) ⊎ (0 < n)
 cases-none zero = inl refl
 cases-none (suc n) = inr (omega arith)
 
-order-bytes : (os : List Order) → length os ≤ sizeAll os
+order-bytes : (os : List Order) → 2 * length os ≤ sizeAll os
 order-bytes [] = omega arith
-order-bytes (o ∷ os) = omega (arith, order-bytes os, size-some o)
+order-bytes (o ∷ os) = omega (arith, order-bytes os, size-bounds o .0)
 
 -- what is known of the next order
 pub record Next (os : List Order) (i : ℕ) (o : Order) : Type 0 where
@@ -171,8 +176,8 @@ module _ {bs rest : List ℕ} {i : ℕ} (r : Reached bs rest i) where
       within = omega (arith, more);
     }
 
-  -- orders are no more than the bytes that they took
-  pub reached-few : i + length rest ≤ length bs
+  -- an order took two bytes at least
+  pub reached-few : 2 * i + length rest ≤ length bs
   reached-few = omega (arith, r .bytes, r .within, order-bytes (take i (parse bs .orders)), length-take-le i (parse bs .orders) (r .within))
 
   ended : (f : Option OrderFault) → parse rest ≡ record { orders = []; fault = f } → Ended bs rest i f

@@ -5,8 +5,6 @@ use mathlib.Core.List.{List}
 use Prim.Native.Nat.{ℕ, zero, suc, _+_, _-_, _*_, _/_, _%_, _^_}
 use lib.Dec.{leb, ltb}
 use lib.ListN.{length, getD}
-use Rattle.std.specs.declared.option.Option.{Option}
-use Rattle.std.specs.declared.option.Option.the-variants.{None, Some}
 use Rattle.std.specs.declared.result.Result.{Result}
 use Rattle.std.specs.declared.result.Result.the-variants.{Ok, Err}
 use Rattle.orders.specs.declared.fault.BitFault.{BitFault}
@@ -24,10 +22,6 @@ fieldAt bs from (suc w) = fieldAt bs from w * 2 + bitAt bs (from + w)
 -- the bytes have these bits, a u64 holds their number, and a usize counts them
 abbrev pub readable : List ℕ → ℕ → ℕ → Bool
 readable bs from w = leb (from + w) (8 * length bs) && leb w 64 && ltb (from + w) (2 ^ 64)
-
--- the count of bits read after the next w bits, if they can be read
-abbrev pub endAfter : List ℕ → ℕ → ℕ → Option ℕ
-endAfter bs from w = cond (readable bs from w) (Some (from + w)) None
 
 -- what reading w bits from bit `from` on answers
 abbrev pub fieldRead : List ℕ → ℕ → ℕ → Result ℕ BitFault

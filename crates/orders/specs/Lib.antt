@@ -4,3 +4,4 @@ pub mod Reading
 pub mod Writing
 pub mod Streams
 pub mod Numbers
+pub mod Parts

@@ -1,18 +1,12 @@
 -- Streams as numbers, a second view of the format: bytes are the digits of one number in base 256, and
 -- fields are appended to it by shifting. Assumes nothing.
-use mathlib.Core.Path.{_≡_}
 use mathlib.Core.List.{List, [], _∷_}
-use Prim.Native.Nat.{ℕ, zero, suc, _+_, _-_, _*_, _/_, _%_, _^_}
+use Prim.Native.Nat.{ℕ, _+_, _-_, _*_, _/_, _%_, _^_}
 use lib.ListN.{length}
 use Rattle.std.specs.shelf.Digits.{number}
 use Rattle.std.specs.shelf.Lists.{joined}
 use Rattle.orders.specs.declared.order.Order.{Order}
 use Rattle.orders.specs.Writing.{fieldsOf}
-
--- the lowest n bytes of a number, the most significant first
-unfoldable pub bytesOf : ℕ → ℕ → List ℕ
-bytesOf zero v = []
-bytesOf (suc n) v = v / 2 ^ (8 * n) % 256 ∷ bytesOf n v
 
 -- the number v with fields appended, each a width and a value
 abbrev pub appended : ℕ → List (ℕ × ℕ) → ℕ

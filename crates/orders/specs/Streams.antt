@@ -2,7 +2,7 @@
 use mathlib.Core.Path.{_≡_}
 use mathlib.Core.Bool.{true, cond}
 use mathlib.Core.List.{List, [], _∷_, _++_}
-use Prim.Native.Nat.{ℕ, zero, suc}
+use Prim.Native.Nat.{ℕ, zero, suc, _<_}
 use lib.Dec.{leb}
 use lib.ListN.{length, drop}
 use Rattle.std.specs.declared.option.Option.{Option}
@@ -31,29 +31,31 @@ abbrev pub andThen : Result (Order × List ℕ) OrderFault → (List ℕ → Par
 andThen (Ok p) rest = withFirst (p .0) (rest (p .1))
 andThen (Err e) rest = record { orders = []; fault = Some e }
 
--- the same, by at most n orders: the definition goes round n times
+-- the first n orders of a stream and the fault after them; no fault is told where more than n orders are left
 unfoldable pub parseIn : ℕ → List ℕ → Parsed
 parseIn n [] = record { orders = []; fault = None }
 parseIn zero (b ∷ bs) = record { orders = []; fault = None }
 parseIn (suc n) (b ∷ bs) = andThen (read (b ∷ bs)) (parseIn n)
 
--- a stream has no more orders than bytes
+-- all orders of a stream and the fault after them; it has no more orders than bytes
 abbrev pub parse : List ℕ → Parsed
 parse bs = parseIn (length bs) bs
 
--- the count of a stream's orders, or where the first fault is
+-- the count of orders, or the fault after them and where it is
 abbrev pub counted : Option OrderFault → List Order → Result ℕ StreamFault
 counted None os = Ok (length os)
 counted (Some e) os = Err record { index = length os; byte = sizeAll os; cause = e }
 
+-- the count of a stream's orders, or its fault
 abbrev pub countAnswer : List ℕ → Result ℕ StreamFault
 countAnswer bs = counted (parse bs .fault) (parse bs .orders)
 
--- the same where the orders are wanted in n cells
+-- a count where the orders are wanted in n cells
 abbrev pub inCells : ℕ → Result ℕ StreamFault → Result ℕ ReadFault
 inCells n (Ok count) = cond (leb count n) (Ok count) (Err TooShort)
 inCells n (Err e) = Err (Stream e)
 
+-- what reading a stream into n cells answers
 abbrev pub readAnswer : List ℕ → ℕ → Result ℕ ReadFault
 readAnswer bs n = inCells n (countAnswer bs)
 
@@ -62,16 +64,20 @@ abbrev pub readLeaves : List Order → Result ℕ ReadFault → List Order → L
 readLeaves os (Ok n) out = os ++ drop n out
 readLeaves os (Err e) out = out
 
--- what follows the last order is nothing, or has the fault
+-- the writer accepts the orders, and makes of them the front of the bytes, before the rest
+pub record Fronts (os : List Order) (rest bs : List ℕ) : Type 0 where
+  pub fit : allFit os ≡ true
+  pub bytes : encodeAll os ++ rest ≡ bs
+
+-- what follows the last order is nothing, or bytes that have the fault
 abbrev pub EndsBy : Option OrderFault → List ℕ → Type 0
 EndsBy None rest = rest ≡ []
-EndsBy (Some e) rest = read rest ≡ Err e
+EndsBy (Some e) rest = (0 < length rest) × (read rest ≡ Err e)
 
--- the bytes are those that the writer makes of the orders, and then what ends the stream
+-- the bytes are what the writer makes of the orders, and then what ends the stream
 pub record Splits (bs : List ℕ) (p : Parsed) : Type 0 where
   pub rest : List ℕ
-  pub bytes : encodeAll (p .orders) ++ rest ≡ bs
-  pub fit : allFit (p .orders) ≡ true
+  pub front : Fronts (p .orders) rest bs
   pub ends : EndsBy (p .fault) rest
 
 -- the stream has these orders and no fault

@@ -51,10 +51,11 @@ sizeOf (Move g d h) = 7
 sizeOf (PlanFor k) = 2
 sizeOf (PlanWithin l) = 6
 
--- an order's bytes, and those of orders after one another
+-- an order's bytes
 unfoldable pub encode : Order → List ℕ
 encode o = bytesIn (sizeOf o) (packed (fieldsOf o))
 
+-- the bytes of orders after one another
 abbrev pub encodeAll : List Order → List ℕ
 encodeAll os = joined encode os
 
@@ -70,6 +71,7 @@ fits (Move g d h) = ltb g (2 ^ 8) && ltb d (2 ^ 20) && inTwos h
 fits (PlanFor k) = ltb k (2 ^ 6)
 fits (PlanWithin l) = ltb l (2 ^ 43)
 
+-- so with all orders
 abbrev pub allFit : List Order → Bool
 allFit [] = true
 allFit (o ∷ os) = fits o && allFit os

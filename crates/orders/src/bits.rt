@@ -3,8 +3,9 @@ ghost use mathlib.Core.Path.{_≡_};
 ghost use Prim.Native.Nat.{_+_, _*_, _<_, _≤_, _^_};
 ghost use lib.ListN.{length};
 ghost use Rattle.std.specs.Vec.{made};
-ghost use Rattle.orders.specs.Bits.{bitAt, fieldAt, endAfter, fieldRead, fieldEnd};
+ghost use Rattle.orders.specs.Bits.{bitAt, fieldAt, fieldRead, fieldEnd};
 ghost use Rattle.orders.specs.Numbers.{cutFrom};
+ghost use Rattle.orders.specs.Parts.{endAfter};
 use crate::fault::BitFault;
 
 // Bytes, and how many of their bits are read.
@@ -53,7 +54,7 @@ impl BitReader<'_> {
     // The next `width` bits as a number. Where the bytes end before, or a `u64` cannot hold the
     // number, or a `usize` cannot count its bits, nothing is read.
     pub fn field(&mut self, width: u32) -> Result<u64, BitFault>
-        ensures as_defined { λ r. ⌜ r ≡ fieldRead (now (now (self .entry) .bytes)) (now (self .entry) .at) width ⌝ }
+        ensures number_of_the_next_bits { λ r. ⌜ r ≡ fieldRead (now (now (self .entry) .bytes)) (now (self .entry) .at) width ⌝ }
         ensures moved_past { λ _. ⌜ now (self .exit) .at ≡ fieldEnd (now (now (self .entry) .bytes)) (now (self .entry) .at) width ⌝ }
         ensures bytes_kept { λ _. ⌜ now (now (self .exit) .bytes) ≡ now (now (self .entry) .bytes) ⌝ }
         ensures within_width { λ r. ⌜ made r (λ v. v < 2 ^ width) ⌝ }

@@ -7,7 +7,7 @@ ghost use Rattle.orders.specs.Faults.{bitFaultNumber, orderFaultNumber, stream
 // Why a field of bits is not read.
 #[derive(Clone, Copy, Debug, PartialEq)]
 pub enum BitFault {
-    // The bytes end before the field does.
+    // The bytes end before the field does, or a `u64` cannot hold it, or a `usize` cannot count its bits.
     Ends,
 }
 
@@ -51,16 +51,16 @@ pub enum WriteFault {
 pub impl From<BitFault> for OrderFault as OrderFaultFromBits {
     ghost converts = { λ e r. r ≡ Bits e };
 
-    fn from(fault: BitFault) -> OrderFault {
-        OrderFault::Bits(fault)
+    fn from(below: BitFault) -> OrderFault {
+        OrderFault::Bits(below)
     }
 }
 
 pub impl From<StreamFault> for ReadFault as ReadFaultFromStream {
     ghost converts = { λ e r. r ≡ Stream e };
 
-    fn from(fault: StreamFault) -> ReadFault {
-        ReadFault::Stream(fault)
+    fn from(below: StreamFault) -> ReadFault {
+        ReadFault::Stream(below)
     }
 }
 

@@ -1,4 +1,4 @@
-// The orders that a control head is fed, packed into bits: read, written and told apart by their faults.
+// The orders that a control head is fed: read from bits, written as bits, and the faults of both.
 pub mod bits;
 pub mod examples;
 pub mod fault;

@@ -1,12 +1,13 @@
 // Reads the order at the front of a stream.
 ghost use mathlib.Core.Path.{_≡_};
-ghost use mathlib.Core.List.{_++_};
+ghost use mathlib.Core.List.{[], _∷_};
 ghost use Prim.Native.Nat.{_+_, _*_, _<_, _≤_, _^_};
 ghost use lib.ListN.{length};
 ghost use Rattle.std.specs.Vec.{made};
 ghost use Rattle.orders.specs.declared.order.Order.the-variants.{Set, Move};
-ghost use Rattle.orders.specs.Reading.{signed, placeRead, widthOf, fieldsRead, paddingAfter, paddingRead, read, plain};
-ghost use Rattle.orders.specs.Writing.{encode};
+ghost use Rattle.orders.specs.Reading.{signed, widthOf, fieldsRead, paddingAfter, read, plain};
+ghost use Rattle.orders.specs.Parts.{placeRead, paddingRead};
+ghost use Rattle.orders.specs.Streams.{Fronts};
 use crate::bits::BitReader;
 use crate::fault::BitFault;
 use crate::fault::OrderFault;
@@ -98,7 +99,7 @@ fn read_fields(reader: &mut BitReader, kind: u8) -> Result<Order, OrderFault>
 // The bits up to the next whole byte, all of which are 0.
 fn read_padding(reader: &mut BitReader) -> Result<(), OrderFault>
     requires within { ⌜ now reader .at ≤ 8 * length (now (now reader .bytes)) ⌝ }
-    requires early { ⌜ now reader .at < 64 ⌝ }
+    requires position_below_64 { ⌜ now reader .at < 64 ⌝ }
     ensures same { λ _. ⌜ now (now (reader .exit) .bytes) ≡ now (now (reader .entry) .bytes) ⌝ }
     ensures value { λ r. ⌜ r ≡ paddingRead (now (reader .entry) .at) (now (now (reader .entry) .bytes)) ⌝ }
     ensures moved { λ r. ⌜ made r (λ _. now (reader .exit) .at ≡ now (reader .entry) .at + paddingAfter (now (reader .entry) .at)) ⌝ }
@@ -112,8 +113,8 @@ fn read_padding(reader: &mut BitReader) -> Result<(), OrderFault>
 
 // The order at the front of a stream, and the rest of the stream.
 pub fn read_order(bytes: &[u8]) -> Result<(Order, &[u8]), OrderFault>
-    ensures as_defined { λ r. ⌜ plain r ≡ read (now (bytes .entry)) ⌝ }
-    ensures what_the_writer_makes { λ r. ⌜ made r (λ p. encode (p .0) ++ now (p .1) ≡ now (bytes .entry)) ⌝ }
+    ensures order_and_rest_or_fault { λ r. ⌜ plain r ≡ read (now (bytes .entry)) ⌝ }
+    ensures what_the_writer_makes { λ r. ⌜ made r (λ p. Fronts (p .0 ∷ []) (now (p .1)) (now (bytes .entry))) ⌝ }
 {
     let [first, rest @ ..] = bytes else {
         return Err(OrderFault::Bits(BitFault::Ends));

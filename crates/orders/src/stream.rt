@@ -1,12 +1,12 @@
 // Reads a whole stream.
 ghost use mathlib.Core.Path.{_≡_};
-ghost use mathlib.Core.List.{_++_};
-ghost use Prim.Native.Nat.{_≤_};
+ghost use mathlib.Core.List.{[], _++_};
+ghost use Prim.Native.Nat.{_*_, _≤_};
 ghost use lib.ListN.{length, take, drop};
 ghost use Rattle.std.specs.Vec.{made};
 ghost use Rattle.std.specs.declared.result.Result.the-variants.{Ok};
-ghost use Rattle.orders.specs.Streams.{parse, countAnswer, readAnswer, readLeaves, Splits};
-ghost use Rattle.orders.specs.Writing.{encodeAll, sizeAll};
+ghost use Rattle.orders.specs.Streams.{parse, countAnswer, readAnswer, readLeaves, Fronts, Splits};
+ghost use Rattle.orders.specs.Writing.{sizeAll};
 use crate::fault::OrderFault;
 use crate::fault::ReadFault;
 use crate::fault::ReadFaultFromStream;
@@ -25,6 +25,7 @@ struct Extent {
 // Reads orders until the bytes end or have a fault.
 fn measure(bytes: &[u8]) -> Extent
     ensures count { λ r. ⌜ r .count ≡ length (parse (now (bytes .entry)) .orders) ⌝ }
+    ensures few { λ r. ⌜ 2 * r .count ≤ length (now (bytes .entry)) ⌝ }
     ensures size { λ r. ⌜ r .size ≡ sizeAll (parse (now (bytes .entry)) .orders) ⌝ }
     ensures fault { λ r. ⌜ r .fault ≡ parse (now (bytes .entry)) .fault ⌝ }
     ensures splits { λ _. ⌜ Splits (now (bytes .entry)) (parse (now (bytes .entry))) ⌝ }
@@ -56,7 +57,7 @@ fn fill(bytes: &[u8], count: usize, out: &mut [Order])
     requires sound { ⌜ Ok count ≡ countAnswer (now bytes) ⌝ }
     requires room { ⌜ count ≤ length (now out) ⌝ }
     ensures after { λ _. ⌜ now (out .exit) ≡ parse (now (bytes .entry)) .orders ++ drop count (now (out .entry)) ⌝ }
-    ensures form { λ _. ⌜ encodeAll (take count (now (out .exit))) ≡ now (bytes .entry) ⌝ }
+    ensures form { λ _. ⌜ Fronts (take count (now (out .exit))) [] (now (bytes .entry)) ⌝ }
 {
     let mut rest = bytes;
     let mut at = 0;
@@ -69,7 +70,8 @@ fn fill(bytes: &[u8], count: usize, out: &mut [Order])
 
 // How many orders a stream has, or the first fault and where it is.
 pub fn count_orders(bytes: &[u8]) -> Result<usize, StreamFault>
-    ensures as_defined { λ r. ⌜ r ≡ countAnswer (now (bytes .entry)) ⌝ }
+    ensures count_or_first_fault { λ r. ⌜ r ≡ countAnswer (now (bytes .entry)) ⌝ }
+    ensures at_most_one_for_two_bytes { λ r. ⌜ made r (λ n. 2 * n ≤ length (now (bytes .entry))) ⌝ }
     ensures written_up_to_the_fault { λ _. ⌜ Splits (now (bytes .entry)) (parse (now (bytes .entry))) ⌝ }
 {
     let extent = measure(bytes);
@@ -86,9 +88,9 @@ pub fn count_orders(bytes: &[u8]) -> Result<usize, StreamFault>
 // Reads the orders of a stream into the front of `out`, and says how many they are. Where the stream
 // has a fault, or else `out` is too short, nothing is written.
 pub fn read_orders(bytes: &[u8], out: &mut [Order]) -> Result<usize, ReadFault>
-    ensures as_defined { λ r. ⌜ r ≡ readAnswer (now (bytes .entry)) (length (now (out .entry))) ⌝ }
+    ensures count_or_refusal { λ r. ⌜ r ≡ readAnswer (now (bytes .entry)) (length (now (out .entry))) ⌝ }
     ensures cells_after { λ r. ⌜ now (out .exit) ≡ readLeaves (parse (now (bytes .entry)) .orders) r (now (out .entry)) ⌝ }
-    ensures what_the_writer_makes { λ r. ⌜ made r (λ n. encodeAll (take n (now (out .exit))) ≡ now (bytes .entry)) ⌝ }
+    ensures what_the_writer_makes { λ r. ⌜ made r (λ n. Fronts (take n (now (out .exit))) [] (now (bytes .entry))) ⌝ }
 {
     let count = count_orders(bytes)?;
     if count > out.len() {

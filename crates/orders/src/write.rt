@@ -8,7 +8,8 @@ ghost use lib.ListN.{length, take, drop};
 ghost use lib.Seq.{paste};
 ghost use Rattle.std.specs.Vec.{made};
 ghost use Rattle.std.specs.shelf.Digits.{number};
-ghost use Rattle.orders.specs.Numbers.{bytesOf, appended, numberOf};
+ghost use Rattle.orders.specs.Numbers.{appended, numberOf};
+ghost use Rattle.orders.specs.Parts.{bytesOf};
 ghost use Rattle.orders.specs.Streams.{parse, WhollyRead};
 ghost use Rattle.orders.specs.Writing.{twos, fieldsOf, sizeOf, encodeAll, inTwos, fits, allFit, sizeAll, writeAnswer, writeLeaves};
 use crate::fault::WriteFault;
@@ -94,7 +95,7 @@ fn place_fits(gate: u8, distance: u32, height: i32) -> bool
 
 // The 20 bits of a height in two's complement.
 fn height_bits(height: i32) -> u64
-    requires short { ⌜ inTwos height ≡ true ⌝ }
+    requires in_range { ⌜ inTwos height ≡ true ⌝ }
     ensures value { λ r. ⌜ r ≡ twos height ⌝ }
     ensures small { λ r. ⌜ r < 2 ^ 20 ⌝ }
 {
@@ -107,7 +108,7 @@ fn height_bits(height: i32) -> u64
 
 // The bits so far as a number, with one more field after them.
 fn append(front: u64, width: u32, value: u64) -> u64
-    requires wide { ⌜ width < 64 ⌝ }
+    requires narrow { ⌜ width < 64 ⌝ }
     requires small { ⌜ value < 2 ^ width ⌝ }
     requires room { ⌜ front * 2 ^ width < 2 ^ 64 ⌝ }
     ensures value { λ r. ⌜ r ≡ front * 2 ^ width + value ⌝ }
@@ -117,9 +118,9 @@ fn append(front: u64, width: u32, value: u64) -> u64
 
 // The number of a set or a move.
 fn place_number(kind: u64, gate: u8, distance: u32, height: i32) -> u64
-    requires kinds { ⌜ kind < 8 ⌝ }
-    requires near { ⌜ distance < 2 ^ 20 ⌝ }
-    requires short { ⌜ inTwos height ≡ true ⌝ }
+    requires three_bits { ⌜ kind < 8 ⌝ }
+    requires twenty_bits { ⌜ distance < 2 ^ 20 ⌝ }
+    requires in_range { ⌜ inTwos height ≡ true ⌝ }
     ensures value { λ r. ⌜ r ≡ (((kind * 2 ^ 8 + gate) * 2 ^ 20 + distance) * 2 ^ 20 + twos height) * 2 ^ 5 + 0 ⌝ }
 {
     let front = append(kind, 8, gate as u64);
@@ -187,7 +188,7 @@ fn put_all(orders: &[Order], out: &mut [u8]) -> usize
 // Writes the orders to the front of `out`, and says how many bytes they take. Where a field cannot
 // hold its value, or else `out` is too short, nothing is written.
 pub fn write_orders(orders: &[Order], out: &mut [u8]) -> Result<usize, WriteFault>
-    ensures as_defined { λ r. ⌜ r ≡ writeAnswer (now (orders .entry)) (length (now (out .entry))) ⌝ }
+    ensures length_or_refusal { λ r. ⌜ r ≡ writeAnswer (now (orders .entry)) (length (now (out .entry))) ⌝ }
     ensures bytes_after { λ r. ⌜ now (out .exit) ≡ writeLeaves (now (orders .entry)) r (now (out .entry)) ⌝ }
     ensures reads_back { λ r. ⌜ made r (λ n. WhollyRead (now (orders .entry)) (parse (take n (now (out .exit))))) ⌝ }
     ensures one_number { λ r. ⌜ made r (λ n. number 256 (take n (now (out .exit))) ≡ numberOf (now (orders .entry))) ⌝ }

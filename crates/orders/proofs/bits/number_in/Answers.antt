@@ -2,7 +2,7 @@ use mathlib.Core.Path.{_≡_, _∙_}
 use Prim.Native.Nat.{_-_}
 use native.Mathlib.Omega.{arith}
 use Rattle.orders.proofs.Bytes.{bytes-typed, field-is-cut}
-use Rattle.orders.proofs.Runs.{field-none, field-more, field-small}
+use Rattle.orders.proofs.Fields.{field-none, field-more, field-small}
 use Rattle.orders.proofs.bits.number_in.Needs as need
 
 pub loop-i-holds : need.loop-i-holds

@@ -1,7 +1,7 @@
 use mathlib.Core.Path.{sym}
 use native.Mathlib.Omega.{arith}
 use Rattle.std.proofs.shelf.Tests.{lt-leb, le-leb}
-use Rattle.orders.proofs.Turns.{size-more, size-none}
+use Rattle.orders.proofs.WriterLoops.{size-more, size-none}
 use Rattle.orders.proofs.write.have_room.Needs as need
 
 pub returns-then-size-left : need.returns-then-size-left

@@ -1,6 +1,6 @@
 use Rattle.std.proofs.shelf.Edits.{paste-none}
-use Rattle.orders.specs.Numbers.{bytesOf}
-use Rattle.orders.proofs.Turns.{put-more}
+use Rattle.orders.specs.Parts.{bytesOf}
+use Rattle.orders.proofs.WriterLoops.{put-more}
 use Rattle.orders.proofs.write.put.Needs as need
 
 pub loop-i-holds : need.loop-i-holds

@@ -1,6 +1,6 @@
 use mathlib.Core.Path.{_≡_}
 use lib.Seq.{paste}
-use Rattle.orders.specs.Numbers.{bytesOf}
+use Rattle.orders.specs.Parts.{bytesOf}
 use Rattle.orders.proofs.write.put.Given as given
 
 abbrev pub Inv-loop-i : given.InvT-loop-i

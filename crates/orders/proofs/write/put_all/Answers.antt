@@ -1,5 +1,8 @@
+use mathlib.Core.Path.{sym, subst}
+use Prim.Native.Nat.{_≤_}
 use native.Mathlib.Omega.{arith}
-use Rattle.orders.proofs.Turns.{fit-at, size-few, size-more, sofar-more, sofar-size, sofar-all, sofar-back, sofar-number}
+use Rattle.orders.proofs.Fitting.{size-bounds}
+use Rattle.orders.proofs.WriterLoops.{fit-at, size-more, sofar-more, sofar-size, sofar-all, sofar-back, sofar-number}
 use Rattle.orders.proofs.write.put_all.Needs as need
 
 pub as-number-requires : need.as-number-requires
@@ -8,7 +11,7 @@ as-number-requires c κs = record { fitting = fit-at _ _ _ (c .pre .fitting) (c 
 pub put-requires : need.put-requires
 put-requires c κs = record {
   within = omega (arith, size-more _ _ _ _ (c .loop-order-test .taken) (c .size-size .ensures .value));
-  few = size-few _ _ (c .size-size .ensures .value);
+  few = subst (λ n. n ≤ 8) (sym (c .size-size .ensures .value)) (size-bounds _ .1);
 }
 
 pub loop-order-again : need.loop-order-again

@@ -13,18 +13,19 @@ use Rattle.std.proofs.shelf.Lists.{append-nil, at-drop-more, at-drop-all, joine
 use Rattle.std.proofs.shelf.Tests.{and-parts}
 use Rattle.std.specs.shelf.Digits.{number}
 use Rattle.orders.specs.declared.order.Order.{Order}
-use Rattle.orders.specs.declared.order.Order.the-variants.{Set, Lift, Move, PlanFor, PlanWithin}
-use Rattle.orders.specs.Numbers.{appended, bytesOf, numberOf}
+use Rattle.orders.specs.Numbers.{appended, numberOf}
+use Rattle.orders.specs.Parts.{bytesOf}
 use Rattle.orders.specs.Streams.{parse, WhollyRead}
 use Rattle.orders.specs.Writing.{encode, encodeAll, fieldsOf, fits, allFit, sizeOf, sizeAll}
-use Rattle.orders.proofs.Bytes.{length-bytesOf, byte-of}
+use Rattle.orders.proofs.Appending.{length-digits}
+use Rattle.orders.proofs.Bytes.{byte-of}
 use Rattle.orders.proofs.Fitting.{encode-number, fit-from, length-encode, number-all}
 use Rattle.orders.proofs.Streams.{comes-back}
 
 -- the order at i, and those after it
 module _ (os : List Order) (i : ℕ) where
-  pub fit-more : (d : Order) (b : Bool) → i < length os → b ≡ fits (getD os i d) → allFit (drop i os) ≡ allFit os → allFit os ≡ (b && allFit (drop (i + 1) os))
-  fit-more d b h e inv = sym inv ∙ at-drop-more allFit os i d h ∙ ap (λ x. x && allFit (drop (i + 1) os)) (sym e)
+  pub fit-more : (d : Order) (b : Bool) → i < length os → b ≡ fits (getD os i d) → allFit (drop i os) ≡ allFit os → (b && allFit (drop (i + 1) os)) ≡ allFit os
+  fit-more d b h e inv = ap (λ x. x && allFit (drop (i + 1) os)) e ∙ sym (at-drop-more allFit os i d h) ∙ inv
 
   pub fit-all : length os ≤ i → allFit (drop i os) ≡ allFit os → true ≡ allFit os
   fit-all h inv = sym (at-drop-all allFit os i h) ∙ inv
@@ -39,15 +40,8 @@ module _ (os : List Order) (i : ℕ) where
 pub put-more : (out was : List ℕ) (at n v i : ℕ) → at + n ≤ length was → i < n → out ≡ paste was at (bytesOf n v) i → set out (at + i) (bitAnd (v / 2 ^ (8 * (n - 1 - i))) 255) ≡ paste was at (bytesOf n v) (i + 1)
 put-more out was at n v i room h inv =
     let byte : bitAnd (v / 2 ^ (8 * (n - 1 - i))) 255 ≡ getD (bytesOf n v) i 0 = and-mask _ 8 ∙ sym (byte-of n v i [] h) ∙ ap (λ l. getD l i 0) (append-nil (bytesOf n v)) in
-    let long = length-bytesOf n v in
+    let long = length-digits 8 n v in
     rw (inv, byte) (paste-more was at (bytesOf n v) i 0 (omega arith) (omega arith))
-
-pub size-few : (o : Order) (n : ℕ) → n ≡ sizeOf o → n ≤ 8
-size-few (Set g d h) n e = omega arith
-size-few (Lift g) n e = omega arith
-size-few (Move g d h) n e = omega arith
-size-few (PlanFor k) n e = omega arith
-size-few (PlanWithin l) n e = omega arith
 
 pub fit-at : (os : List Order) (i : ℕ) (d : Order) → allFit os ≡ true → i < length os → fits (getD os i d) ≡ true
 fit-at [] i d all h = absurd (omega arith)
