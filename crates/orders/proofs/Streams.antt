@@ -18,7 +18,7 @@ use Rattle.orders.specs.declared.fault.OrderFault.{OrderFault}
 use Rattle.orders.specs.declared.order.Order.{Order}
 use Rattle.orders.specs.Reading.{kindIn, widthOf, wholeBytes, orderOf, read}
 use Rattle.orders.specs.Writing.{encode, encodeAll, allFit, fits, sizeOf, sizeAll}
-use Rattle.orders.specs.Streams.{Parsed, withFirst, andThen, parseIn, parse, counted, countAnswer, Fronts, EndsBy, Splits}
+use Rattle.orders.specs.Streams.{Parsed, withFirst, andThen, parseIn, parse, counted, countAnswer, Fronts, EndsBy, OneReading, Splits}
 use Rattle.orders.proofs.ReadIsWritten.{read-inv, rest-shorter, read-back}
 use Rattle.orders.proofs.Fitting.{fit-from, fits-from, size-bounds}
 use Rattle.orders.proofs.WrittenIsRead.{read-encode}
@@ -60,13 +60,33 @@ pub parse-stops : (bs : List ℕ) (e : OrderFault) → Err e ≡ read bs → par
 parse-stops [] e h = ap (λ p. p .orders) parse-none
 parse-stops (b ∷ bs) e h = ap (λ p. p .orders) (parse-fault (b ∷ bs) e (omega arith) h)
 
--- orders that fit their fields come back
-pub comes-back : (os : List Order) → allFit os ≡ true → parse (encodeAll os) ≡ record { orders = os; fault = None }
-comes-back [] h = parse-none
-comes-back (o ∷ os) h =
+-- orders that fit their fields come back, before what the rest says
+parse-front : (os : List Order) (rest : List ℕ) → allFit os ≡ true → parse (encodeAll os ++ rest) ≡ record { orders = os ++ parse rest .orders; fault = parse rest .fault }
+parse-front [] rest h = refl
+parse-front (o ∷ os) rest h =
     let both = and-parts (fits o) (allFit os) h in
-    parse-more (encode o ++ encodeAll os) o (encodeAll os) (sym (read-encode o (encodeAll os) (fit-from o (both .0))))
-    ∙ ap (withFirst o) (comes-back os (both .1))
+    let next : List ℕ = encodeAll os ++ rest in
+    ap parse (append-assoc (encode o) (encodeAll os) rest)
+    ∙ parse-more (encode o ++ next) o next (sym (read-encode o next (fit-from o (both .0))))
+    ∙ ap (withFirst o) (parse-front os rest (both .1))
+
+ends-parse : (f : Option OrderFault) (rest : List ℕ) → EndsBy f rest → parse rest ≡ record { orders = []; fault = f }
+ends-parse None rest e = ap parse e ∙ parse-none
+ends-parse (Some x) rest e = parse-fault rest x (e .0) (sym (e .1))
+
+-- so a stream has no other reading
+pub splits-only : (bs : List ℕ) (p : Parsed) → Splits bs p → p ≡ parse bs
+splits-only bs p s =
+    let end = ends-parse (p .fault) (s .rest) (s .ends) in
+    let all : parse bs ≡ record { orders = p .orders ++ []; fault = p .fault } =
+    ap parse (sym (s .front .bytes))
+    ∙ parse-front (p .orders) (s .rest) (s .front .fit)
+    ∙ ap (λ (q : Parsed). record { orders = p .orders ++ q .orders; fault = q .fault }) end
+    in
+    sym (all ∙ ap (λ os. record { orders = os; fault = p .fault }) (append-nil (p .orders)))
+
+pub comes-back : (os : List Order) → allFit os ≡ true → record { orders = os; fault = None } ≡ parse (encodeAll os)
+comes-back os h = splits-only (encodeAll os) record { orders = os; fault = None } record { rest = []; front = record { fit = h; bytes = append-nil (encodeAll os) }; ends = refl }
 
 -- one order at the front of the bytes that it was read from
 pub read-front : (bs : List ℕ) (o : Order) (rest : List ℕ) → Under 256 bs → read bs ≡ Ok (o, rest) → Fronts (o ∷ []) rest bs
@@ -97,6 +117,9 @@ splits-in (suc n) (b ∷ bs) h u = splits-by (b ∷ bs) (read (b ∷ bs)) refl (
 
 pub splits : (bs : List ℕ) → Under 256 bs → Splits bs (parse bs)
 splits bs u = splits-in (length bs) bs (omega arith) u
+
+pub one-reading : (bs : List ℕ) → Under 256 bs → OneReading bs
+one-reading bs u = record { splits = splits bs u; only = splits-only bs }
 
 -- a stream without a fault is what the writer makes of its orders
 pub whole-form : (bs : List ℕ) → Under 256 bs → parse bs .fault ≡ None → Fronts (parse bs .orders) [] bs

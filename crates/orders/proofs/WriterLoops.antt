@@ -94,7 +94,7 @@ module _ {os : List Order} {was out : List ℕ} {i at : ℕ} (s : Sofar os was o
     sofar-front = ap (take at) sofar-all ∙ take-at (encodeAll os) (drop at was) at (ap length (sym whole) ∙ s .long)
 
     pub sofar-back : allFit os ≡ true → WhollyRead os (parse (take at out))
-    sofar-back fit = let p = ap parse sofar-front ∙ comes-back os fit in record { orders = ap (λ q. q .orders) p; sound = ap (λ q. q .fault) p }
+    sofar-back fit = let p = ap parse sofar-front ∙ sym (comes-back os fit) in record { orders = ap (λ q. q .orders) p; sound = ap (λ q. q .fault) p }
 
     pub sofar-number : allFit os ≡ true → number 256 (take at out) ≡ numberOf os
     sofar-number fit = ap (number 256) sofar-front ∙ number-all os 0 fit

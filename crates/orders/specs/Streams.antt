@@ -80,6 +80,11 @@ pub record Splits (bs : List ℕ) (p : Parsed) : Type 0 where
   pub front : Fronts (p .orders) rest bs
   pub ends : EndsBy (p .fault) rest
 
+-- a stream splits so for one reading of it only
+pub record OneReading (bs : List ℕ) : Type 0 where
+  pub splits : Splits bs (parse bs)
+  pub only : (p : Parsed) → Splits bs p → p ≡ parse bs
+
 -- the stream has these orders and no fault
 pub record WhollyRead (os : List Order) (p : Parsed) : Type 0 where
   pub orders : p .orders ≡ os

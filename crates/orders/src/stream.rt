@@ -5,7 +5,7 @@ ghost use Prim.Native.Nat.{_*_, _≤_};
 ghost use lib.ListN.{length, take, drop};
 ghost use Rattle.std.specs.Vec.{made};
 ghost use Rattle.std.specs.declared.result.Result.the-variants.{Ok};
-ghost use Rattle.orders.specs.Streams.{parse, countAnswer, readAnswer, readLeaves, Fronts, Splits};
+ghost use Rattle.orders.specs.Streams.{parse, countAnswer, readAnswer, readLeaves, Fronts, OneReading};
 ghost use Rattle.orders.specs.Writing.{sizeAll};
 use crate::fault::OrderFault;
 use crate::fault::ReadFault;
@@ -28,7 +28,7 @@ fn measure(bytes: &[u8]) -> Extent
     ensures few { λ r. ⌜ 2 * r .count ≤ length (now (bytes .entry)) ⌝ }
     ensures size { λ r. ⌜ r .size ≡ sizeAll (parse (now (bytes .entry)) .orders) ⌝ }
     ensures fault { λ r. ⌜ r .fault ≡ parse (now (bytes .entry)) .fault ⌝ }
-    ensures splits { λ _. ⌜ Splits (now (bytes .entry)) (parse (now (bytes .entry))) ⌝ }
+    ensures reading { λ _. ⌜ OneReading (now (bytes .entry)) ⌝ }
 {
     let mut rest = bytes;
     let mut count: usize = 0;
@@ -72,7 +72,7 @@ fn fill(bytes: &[u8], count: usize, out: &mut [Order])
 pub fn count_orders(bytes: &[u8]) -> Result<usize, StreamFault>
     ensures count_or_first_fault { λ r. ⌜ r ≡ countAnswer (now (bytes .entry)) ⌝ }
     ensures at_most_one_for_two_bytes { λ r. ⌜ made r (λ n. 2 * n ≤ length (now (bytes .entry))) ⌝ }
-    ensures written_up_to_the_fault { λ _. ⌜ Splits (now (bytes .entry)) (parse (now (bytes .entry))) ⌝ }
+    ensures written_up_to_the_fault { λ _. ⌜ OneReading (now (bytes .entry)) ⌝ }
 {
     let extent = measure(bytes);
     match extent.fault {
