@@ -10,7 +10,7 @@ use Rattle.std.specs.declared.result.Result.the-variants.{Ok, Err}
 use Rattle.orders.specs.declared.fault.BitFault.{BitFault}
 use Rattle.orders.specs.declared.fault.BitFault.the-variants.{Ends}
 
--- bit i: byte i / 8, and of it the bit i % 8 places below the top
+-- bit i: byte i / 8, and of it the bit i % 8 places below the top; 0 past the end
 unfoldable pub bitAt : List ℕ → ℕ → ℕ
 bitAt bs i = getD bs (i / 8) 0 / 2 ^ (7 - i % 8) % 2
 
@@ -23,7 +23,7 @@ fieldAt bs from (suc w) = fieldAt bs from w * 2 + bitAt bs (from + w)
 abbrev pub readable : List ℕ → ℕ → ℕ → Bool
 readable bs from w = leb (from + w) (8 * length bs) && leb w 64 && ltb (from + w) (2 ^ 64)
 
--- what reading w bits from bit `from` on answers
+-- what reading w bits from bit `from` on answers: their number, or that they cannot be read
 abbrev pub fieldRead : List ℕ → ℕ → ℕ → Result ℕ BitFault
 fieldRead bs from w = cond (readable bs from w) (Ok (fieldAt bs from w)) (Err Ends)
 

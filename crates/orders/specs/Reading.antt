@@ -55,7 +55,7 @@ orderOf k bs =
     (cond (eqb k 2) (Move (gateIn bs) (distanceIn bs) (heightIn bs))
     (cond (eqb k 3) (PlanFor (zonesIn bs)) (PlanWithin (limitIn bs)))))
 
--- the order of kind k, whatever its padding
+-- the order of kind k, whatever its padding, or the fault of its kind or its length
 abbrev pub fieldsRead : ℕ → List ℕ → Result Order OrderFault
 fieldsRead k bs = cond (ltb 4 k) (Err (Kind k)) (cond (ltb (8 * length bs) (widthOf k)) (Err (Bits Ends)) (Ok (orderOf k bs)))
 
@@ -71,12 +71,12 @@ paddingAfter w = 8 * wholeBytes w - w
 abbrev pub paddingIn : ℕ → List ℕ → ℕ
 paddingIn w bs = fieldAt bs w (paddingAfter w)
 
--- an order of w bits and the bytes after it, where its padding is 0
+-- an order of w bits and the bytes after it, or the fault of its padding
 abbrev pub withRest : ℕ → List ℕ → Result Order OrderFault → Result (Order × List ℕ) OrderFault
 withRest w bs (Err e) = Err e
 withRest w bs (Ok o) = cond (eqb (paddingIn w bs) 0) (Ok (o, drop (wholeBytes w) bs)) (Err Padding)
 
--- the first order and the bytes after it
+-- the first order and the bytes after it, or the fault; of several faults the one with the smallest number
 abbrev pub read : List ℕ → Result (Order × List ℕ) OrderFault
 read [] = Err (Bits Ends)
 read (b ∷ bs) = withRest (widthOf (kindIn (b ∷ bs))) (b ∷ bs) (fieldsRead (kindIn (b ∷ bs)) (b ∷ bs))

@@ -64,7 +64,7 @@ abbrev pub readLeaves : List Order → Result ℕ ReadFault → List Order → L
 readLeaves os (Ok n) out = os ++ drop n out
 readLeaves os (Err e) out = out
 
--- the writer accepts the orders, and makes of them the front of the bytes, before the rest
+-- the writer accepts the orders, and the bytes are what it makes of them, followed by the rest
 pub record Fronts (os : List Order) (rest bs : List ℕ) : Type 0 where
   pub fit : allFit os ≡ true
   pub bytes : encodeAll os ++ rest ≡ bs
@@ -80,7 +80,7 @@ pub record Splits (bs : List ℕ) (p : Parsed) : Type 0 where
   pub front : Fronts (p .orders) rest bs
   pub ends : EndsBy (p .fault) rest
 
--- a stream splits so for one reading of it only
+-- the stream splits so into what `parse` says of it, and into nothing else
 pub record OneReading (bs : List ℕ) : Type 0 where
   pub splits : Splits bs (parse bs)
   pub only : (p : Parsed) → Splits bs p → p ≡ parse bs

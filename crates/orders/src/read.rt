@@ -23,6 +23,7 @@ struct Place {
 }
 
 impl Place {
+    // The order that sets the gate here.
     fn to_set(&self) -> Order
         ensures value { λ r. ⌜ r ≡ Set (now (self .entry) .gate) (now (self .entry) .distance) (now (self .entry) .height) ⌝ }
     {
@@ -33,6 +34,7 @@ impl Place {
         }
     }
 
+    // The order that moves the gate here.
     fn to_move(&self) -> Order
         ensures value { λ r. ⌜ r ≡ Move (now (self .entry) .gate) (now (self .entry) .distance) (now (self .entry) .height) ⌝ }
     {
