@@ -1,4 +1,6 @@
 // The interface behind which every cost kind stands: what spans and groups of gates cost, and where masts go.
+#![tactic(auto)]
+
 ghost use Rattle.std.specs.Prelude.{◌≡◌, ℕ, Bool, List, nat_le};
 ghost use Rattle.course.specs.declared.gate.Gate.{Gate};
 ghost use Rattle.course.specs.View.{gates_of};

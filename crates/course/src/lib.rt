@@ -1,4 +1,6 @@
 // The gates of a race, in the order in which they stand on the hill.
+#![tactic(auto)]
+
 mod course;
 mod gate;
 mod refusal;

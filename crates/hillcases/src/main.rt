@@ -1,4 +1,6 @@
 // Tells what every span of the two sample hills costs, and what edits of three courses do.
+#![tactic(auto)]
+
 use course::Course;
 use hills::{edit_text, full_course, hill_h, hill_v, spans_text};
 

@@ -1,4 +1,6 @@
 // Sample courses, figures of one of them, and costs and edits as text.
+#![tactic(auto)]
+
 mod courses;
 mod edits;
 mod examples;

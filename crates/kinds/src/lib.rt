@@ -1,4 +1,6 @@
 // Cost kinds whose values are whole numbers: the gate mast, the free mast and the trench.
+#![tactic(auto)]
+
 ghost use Rattle.std.specs.Prelude.{◌≡◌, ◌^◌, ◌<◌, true, pos, ◌-ℤ◌, unsigned_abs};
 ghost use Rattle.course.specs.Gates.{in_range};
 ghost use Rattle.course.specs.Distances.{square, apart};

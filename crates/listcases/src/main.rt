@@ -1,4 +1,6 @@
 // Lists the stored streams in data/, each under its name.
+#![tactic(auto)]
+
 use listing::{list_stream, read_input};
 use std::fs::File;
 

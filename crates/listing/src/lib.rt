@@ -1,4 +1,6 @@
 // Lists a stream of orders as text.
+#![tactic(auto)]
+
 ghost use Rattle.std.specs.Prelude.{◌≡◌, ◌+◌, ◌≤◌, length, IfOk, vec_len, string_bytes};
 ghost use Rattle.listing.specs.Listing.{order_line, order_lines, closing_line, longest, listing, EachStands};
 ghost use Rattle.orders.specs.Streams.{parse};

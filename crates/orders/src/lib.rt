@@ -1,4 +1,6 @@
 // The orders that a control head is fed: read from bits, written as bits, and the faults of both.
+#![tactic(auto)]
+
 pub mod bits;
 pub mod examples;
 pub mod fault;

@@ -1,4 +1,6 @@
 // Costs counted in steps: a table of limits turns the whole numbers of another cost kind into steps.
+#![tactic(auto)]
+
 mod fault;
 mod limits;
 mod step;
