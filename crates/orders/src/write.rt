@@ -20,8 +20,8 @@ impl Order {
                 gate,
                 distance,
                 height,
-            }
-            | Order::Move {
+            } => place_fits(gate, distance, height),
+            Order::Move {
                 gate,
                 distance,
                 height,

@@ -7,7 +7,7 @@ pub loop-i-init : goal.loop-i-init
 loop-i-init c = field_none _ _ _ (omega arith)
 
 pub loop-i-preserved : goal.loop-i-preserved
-loop-i-preserved c = field_more _ _ _ _ _ (omega arith) (omega arith) c.loop-i.invariant c.bit-at.ensures.value
+loop-i-preserved c = field_more _ _ _ _ _ (omega arith) (omega arith) c.loop-i.invariant c.bit_at.ensures.value
 
 pub returns : goal.returns
 returns c =
@@ -16,5 +16,5 @@ returns c =
     record {
       value = e;
       small = rw e (field_small _ _ _);
-      cut = e ∙ field_is_cut c.args.bytes.now _ _ (bytes_typed _ c.type-inv.bytes) c.requires.inside;
+      cut = e ∙ field_is_cut c.args.bytes.now _ _ (bytes_typed _ c.type_inv.bytes) c.requires.inside;
     }

@@ -5,4 +5,4 @@ use Rattle.orders.proofs.examples.definitions_hold.Goals as goal
 
 pub returns : goal.returns
 unfolding bit_at field_at bits_of packed bytes_in encode
-returns c = record { set-written = refl; set-read = refl; plan-written = refl; plan-read = refl }
+returns c = record { set_written = refl; set_read = refl; plan_written = refl; plan_read = refl }

@@ -3,8 +3,8 @@ use Rattle.orders.proofs.Fitting.{size_bounds}
 use Rattle.orders.proofs.WriterLoops.{fit_at, size_more, sofar_more, sofar_size, sofar_all, sofar_back, sofar_number}
 use Rattle.orders.proofs.write.put_all.Goals as goal
 
-pub as-number-requires : goal.as-number-requires
-as-number-requires c = record { fitting = fit_at _ _ _ c.requires.fitting c.loop-order-test.true }
+pub as_number-requires : goal.as_number-requires
+as_number-requires c = record { fitting = fit_at _ _ _ c.requires.fitting c.loop-order-test.true }
 
 pub put-requires : goal.put-requires
 put-requires c = record {
@@ -15,7 +15,7 @@ put-requires c = record {
 pub loop-order-preserved : goal.loop-order-preserved
 loop-order-preserved c =
     let fit = fit_at _ _ _ c.requires.fitting c.loop-order-test.true in
-    sofar_more c.loop-order.invariant _ _ _ _ c.loop-order-test.true fit c.size-size.ensures.value c.as-number.ensures.value c.put.ensures.after
+    sofar_more c.loop-order.invariant _ _ _ _ c.loop-order-test.true fit c.size-size.ensures.value c.as_number.ensures.value c.put.ensures.after
 
 pub returns : goal.returns
 returns c =
