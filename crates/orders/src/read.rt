@@ -131,7 +131,7 @@ mod tests {
     fn answers_the_order_and_the_rest(rt: HostRuntime) -> Result<(), Fail> {
         let (order, rest) = read_order(&[0x61, 0x00, 0xa0])?;
         assert_eq!(rt; order, Order::PlanFor { zones: 2 });
-        assert_eq!(rt; rest, &[0xa0]);
+        assert_eq!(rt; rest, [0xa0].as_slice());
         Ok(())
     }
 
