@@ -1,5 +1,5 @@
 -- No place is nearer to two gates than the one halfway between them. Assumes nothing.
-use Rattle.std.proofs.Common.{◌≡◌, ℕ, ◌+◌, ◌-◌, ◌*◌, ◌≤◌, true, leb, ◌⊎◌, List, [], ◌∷◌, length, ℤ, pos, ◌+ℤ◌, ◌-ℤ◌, ◌*ℤ◌, nat_abs, ap, ⊎_elim, add-le-add, mul_comm, add-mul, mul-le-mul, mul-add, arith, le-leb}
+use Rattle.std.proofs.Common.{◌≡◌, ℕ, ◌+◌, ◌-◌, ◌*◌, ◌≤◌, true, leb, List, [], ◌∷◌, length, ℤ, pos, ◌+ℤ◌, ◌-ℤ◌, ◌*ℤ◌, nat_abs, ap, ⊎_elim, add-le-add, mul_comm, add-mul, mul-le-mul, mul-add, arith, le-leb}
 use native.Mathlib.Nat.{mul-mul-mul_comm}
 use borrow.Author.Differences.{ints, up, down}
 use Rattle.std.proofs.lemmas.Bool.Decides.{leb_tells}

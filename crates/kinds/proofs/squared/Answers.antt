@@ -15,11 +15,11 @@ square-fits z h = let s = square_small z h in record { sfits = omega arith }
 read_back : (z : ℤ) → SFits w64 z → nat_abs z < 2 ^ 20 → to_z w64 (of_z w64 (to_z w64 (of_z w64 z) *ℤ to_z w64 (of_z w64 z))) ≡ pos (square z)
 read_back z f h = rw (formed z f) (to_z-of_z w64 (pos (square z)) (square-fits z h))
 
-pub overflow-mul-result : goal.overflow-mul-result
-overflow-mul-result c = rw (formed c.args.difference c.ranges.difference) (square-fits c.args.difference c.requires.short)
+pub overflow_mul-result : goal.overflow_mul-result
+overflow_mul-result c = rw (formed c.args.difference c.ranges.difference) (square-fits c.args.difference c.requires.short)
 
-pub overflow-cast-result : goal.overflow-cast-result
-overflow-cast-result c =
+pub overflow_cast-result : goal.overflow_cast-result
+overflow_cast-result c =
     let s = square_small c.args.difference c.requires.short in
     rw (read_back c.args.difference c.ranges.difference c.requires.short) (tt, record { fits = omega arith })
 

@@ -5,4 +5,4 @@ use Rattle.hills.proofs.courses.hills_are_courses.Goals as goal
 
 pub returns : goal.returns
 unfolding is_set beside added_all
-returns c = record { hill-h = refl; hill-v = refl }
+returns c = record { hill_h = refl; hill_v = refl }

@@ -4,8 +4,8 @@ use Rattle.hills.proofs.spans.spans_from.Goals as goal
 
 pub loop-last-preserved : goal.loop-last-preserved
 loop-last-preserved c =
-    let line = c.as-str.ensures.value ∙ c.in-ok-lines.ensures.text in
-    along_more c.loop-last.invariant _ _ (omega arith) line c.in-ok-push-str.was c.push-str.ensures.bytes
+    let line = c.as_str.ensures.value ∙ c.in_ok-lines.ensures.text in
+    along_more c.loop-last.invariant _ _ (omega arith) line c.in_ok-push_str.was c.push_str.ensures.bytes
 
 pub returns : goal.returns
 returns c = record { text = along_all c.loop-last.invariant (omega arith) }

@@ -17,12 +17,12 @@ returns c =
     let k = is_course c.args.course.now in
     let i = c.args.first in
     let j = c.args.last in
-    let v = within gs i j c.requires.a-span in
-    let e = c.distance-squared.ensures.squared-distance ∙ ap (λ (l : List Gate). free_mast_span l i j) c.gates-gates.ensures.from-the-top in
+    let v = within gs i j c.requires.a_span in
+    let e = c.distance_squared.ensures.squared_distance ∙ ap (λ (l : List Gate). free_mast_span l i j) c.gates-gates.ensures.from_the_top in
     record {
-      squared-distance = e;
-      small = c.distance-squared.ensures.small;
+      squared_distance = e;
+      small = c.distance_squared.ensures.small;
       all_small = ends_below apart (2 ^ 43) (λ a b h l. omega (arith, apart_small a b h l)) gs k;
-      least-here = subst (LeastOverPlaces gs (span i j)) (sym (e ∙ ends_whole apart gs i j c.requires.a-span)) (least_over_places gs k (span i j) (span_group (length gs) i j v.counted v.in_order v.inside));
-      least-anywhere = least_over_places gs k;
+      least_here = subst (LeastOverPlaces gs (span i j)) (sym (e ∙ ends_whole apart gs i j c.requires.a_span)) (least_over_places gs k (span i j) (span_group (length gs) i j v.counted v.in_order v.inside));
+      least_anywhere = least_over_places gs k;
     }

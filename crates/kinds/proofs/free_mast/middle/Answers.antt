@@ -14,8 +14,8 @@ returns c =
     let gs = gates_of c.args.course.now in
     let i = c.args.first in
     let j = c.args.last in
-    let e = c.halfway.ensures.sums ∙ ap (λ (l : List Gate). free_mast_mast l i j) c.gates-gates.ensures.from-the-top in
+    let e = c.halfway.ensures.sums ∙ ap (λ (l : List Gate). free_mast_mast l i j) c.gates-gates.ensures.from_the_top in
     record {
-      between-the-ends = e;
-      reaches-every-gate = λ p h k. subst (λ (m : Mast). Reached leb (λ n. n) (free_mast_span gs i j) (reach m (gate_at gs p))) (sym e) (reached_from_middle gs (is_course c.args.course.now) i j c.requires.a-span p h k);
+      between_the_ends = e;
+      reaches_every_gate = λ p h k. subst (λ (m : Mast). Reached leb (λ n. n) (free_mast_span gs i j) (reach m (gate_at gs p))) (sym e) (reached_from_middle gs (is_course c.args.course.now) i j c.requires.a_span p h k);
     }

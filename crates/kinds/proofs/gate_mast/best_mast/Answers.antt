@@ -11,12 +11,12 @@ returns c =
     let gs = gates_of c.args.course.now in
     let i = c.args.first in
     let j = c.args.last in
-    let cost = c.in-ok-y.field-0-0 in
-    let y = c.in-ok-y.y in
+    let cost = c.in_ok-y.field-0-0 in
+    let y = c.in_ok-y.y in
     let m = c.doubled.result in
-    let f = c.in-ok-y.ensures in
-    let at : m ≡ doubled (gate_at gs y) = c.doubled.ensures.twice ∙ ap (λ (xs : List Gate). doubled (gate_at xs y)) c.gates.ensures.from-the-top in
+    let f = c.in_ok-y.ensures in
+    let at : m ≡ doubled (gate_at gs y) = c.doubled.ensures.twice ∙ ap (λ (xs : List Gate). doubled (gate_at xs y)) c.gates.ensures.from_the_top in
     record {
-      at-the-best-gate = mast_told gs i j cost y f.least-cost-and-its-gate m at;
-      reaches-every-gate = mast_reaches gs i j cost y f.least-cost-and-its-gate m at f.below-two-to-43 f.topmost-of-the-best;
+      at_the_best_gate = mast_told gs i j cost y f.least_cost_and_its_gate m at;
+      reaches_every_gate = mast_reaches gs i j cost y f.least_cost_and_its_gate m at f.below_two_to_43 f.topmost_of_the_best;
     }

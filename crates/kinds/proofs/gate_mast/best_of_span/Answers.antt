@@ -6,10 +6,10 @@ use Rattle.kinds.proofs.gate_mast.best_of_span.Goals as goal
 pub returns : goal.returns
 returns c =
     let a = c.args in
-    let b = told_best a.gates.now c.requires.a-course a.first a.last (omega arith) (omega arith) c.first-farther.result c.better-y.result c.cost-at.result c.first-farther.ensures.first-farther c.better-y.ensures.better-gate c.cost-at.ensures.to-the-farther-end in
+    let b = told_best a.gates.now c.requires.a_course a.first a.last (omega arith) (omega arith) c.first_farther.result c.better-y.result c.cost_at.result c.first_farther.ensures.first_farther c.better-y.ensures.better_gate c.cost_at.ensures.to_the_farther_end in
     record {
-      least-cost-and-its-gate = let e = b.0 in let f = b.1 in cc;
-      small = c.cost-at.ensures.small;
-      all_small = groups_below a.gates.now c.requires.a-course;
-      topmost-of-the-best = b.2;
+      least_cost_and_its_gate = let e = b.0 in let f = b.1 in cc;
+      small = c.cost_at.ensures.small;
+      all_small = groups_below a.gates.now c.requires.a_course;
+      topmost_of_the_best = b.2;
     }

@@ -13,14 +13,14 @@ loop-low-preserved c =
     let i = c.args.first in
     let j = c.args.last in
     let middle = c.loop-low.low + (c.loop-low.high - c.loop-low.low) / 2 in
-    let told = sym {b = farther_from_first gs i j middle} c.if-is-farther-from-first.ensures.compared in
+    let told = sym {b = farther_from_first gs i j middle} c.if-is_farther_from_first.ensures.compared in
     (omega arith, omega arith, omega arith, c.loop-low.invariant.3, λ _. farther_at gs i j _ middle _ (omega arith) told)
 
 pub returns : goal.returns
 returns c =
     let i = c.loop-low.invariant in
     record {
-      first-farther = record {
+      first_farther = record {
         from_first = i.0;
         to_last = omega arith;
         farther = farther_at c.args.gates.now c.args.first c.args.last c.loop-low.low c.loop-low.high _ (omega arith) i.3;

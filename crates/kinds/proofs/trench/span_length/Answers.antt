@@ -10,7 +10,7 @@ pub returns : goal.returns
 returns c =
     let k = c.args.course.now in
     record {
-      from-end-to-end = search rules;
-      small = c.length-between.ensures.small;
+      from_end_to_end = search rules;
+      small = c.length_between.ensures.small;
       all_small = ends_below trench (2 ^ 43) (λ a b h l. omega (arith, trench_small a b h l)) (gates_of k) (is_course k);
     }

@@ -11,8 +11,8 @@ returns c =
     let gs = gates_of c.args.self.now in
     let g = c.args.gate in
     record {
-      cause-to-add = add_smallest g gs;
-      cause-to-relocate = relocate_smallest g gs;
-      to-add = rightly (add_refusal gs g) (OneMore g gs) (λ after m. add_allowed gs g (could_add g gs after m));
-      to-relocate = rightly (relocate_refusal gs g) (Replaced g gs) (λ after r. relocate_allowed gs g (could_relocate g gs after r));
+      cause_to_add = add_smallest g gs;
+      cause_to_relocate = relocate_smallest g gs;
+      to_add = rightly (add_refusal gs g) (OneMore g gs) (λ after m. add_allowed gs g (could_add g gs after m));
+      to_relocate = rightly (relocate_refusal gs g) (Replaced g gs) (λ after r. relocate_allowed gs g (could_relocate g gs after r));
     }

@@ -9,4 +9,4 @@ pub returns : goal.returns
 returns c =
     let gs = gates_of c.args.self.now in
     let n = c.args.number in
-    record { cause-to-remove = remove_smallest n gs; to-remove = rightly (remove_refusal gs n) (OneLess n gs) (λ after o. let s = could_remove n gs after o in rw s) }
+    record { cause_to_remove = remove_smallest n gs; to_remove = rightly (remove_refusal gs n) (OneLess n gs) (λ after o. let s = could_remove n gs after o in rw s) }

@@ -20,7 +20,7 @@ returns c =
     let g = c.args.gate in
     record {
       with_it = c.insert.ensures.with_it ∙ ap (with_gate g) c.discard.ensures.others;
-      one-replaced = record {
+      one_replaced = record {
         others = gates_of c.discard.new.self;
         went = c.discard.ensures.one_less (relocatable gs g c.requires.allowed).set;
         came = c.insert.ensures.one_more;

@@ -6,7 +6,7 @@ use Rattle.course.proofs.course.edits.insert_at.Goals as goal
 pub returns : goal.returns
 returns c = record {
   with_it =
-      ap (λ (gs : List Gate). take (c.args.count + 1) (set gs c.args.at c.args.gate)) c.copy-within.ensures.after
+      ap (λ (gs : List Gate). take (c.args.count + 1) (set gs c.args.at c.args.gate)) c.copy_within.ensures.after
       ∙ inserted_by_paste c.args.gates.now c.args.count c.args.at c.args.gate c.requires.place c.requires.room;
-  as_long = length-set c.copy-within.new.self c.args.at c.args.gate ∙ c.copy-within.ensures.len;
+  as_long = length-set c.copy_within.new.self c.args.at c.args.gate ∙ c.copy_within.ensures.len;
 }

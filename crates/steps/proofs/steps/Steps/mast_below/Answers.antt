@@ -13,6 +13,6 @@ returns g c =
     let ls = limits_of s.limits in
     let gs = gates_of c.args.course.now in
     record {
-      mast = c.mast.ensures.mast-of-the-span;
-      reaches = reaches_over cost.not_greater step_not_greater (step_of ls) (λ a b e. steps_monotone ls a b (sym (g.met.C.Whole.usual a b) ∙ e)) (cost.reads_as s.below) (cost.span_cost s.below gs c.args.first c.args.last) gs c.args.first c.args.last c.mast.result c.mast.ensures.reaches-every-gate;
+      mast = c.mast.ensures.mast_of_the_span;
+      reaches = reaches_over cost.not_greater step_not_greater (step_of ls) (λ a b e. steps_monotone ls a b (sym (g.met.C.Whole.usual a b) ∙ e)) (cost.reads_as s.below) (cost.span_cost s.below gs c.args.first c.args.last) gs c.args.first c.args.last c.mast.result c.mast.ensures.reaches_every_gate;
     }
