@@ -1,7 +1,6 @@
 -- The refusal told is the cause with the smallest number. Assumes nothing.
 use Rattle.std.proofs.Common.{◌≡◌, ℕ, zero, suc, ◌+◌, ◌-◌, ◌<◌, ◌≤◌, Bool, true, false, cond, not, ◌||◌, leb, List, [], ◌∷◌, length, get_or, Some, None, Option, sym, refl, ap, ◌∙◌, true≢false, arith, eqb-true, leb-false, leb-true}
-use borrow.Author.Tests.{eqb-false}
-use Rattle.std.proofs.lemmas.Bool.{or_parts}
+use Rattle.std.proofs.lemmas.Bool.{eqb-false, or_parts}
 use Rattle.course.specs.declared.gate.Gate.{Gate}
 use Rattle.course.specs.declared.refusal.Refusal.{Refusal}
 use Rattle.course.specs.declared.refusal.Refusal.TheVariants.{OutOfRange, AlreadySet, NotSet, Full, Beside}

@@ -1,6 +1,6 @@
 -- What edits do to the gates, in any order. Assumes nothing.
 use Rattle.std.proofs.Common.{◌≡◌, ℕ, suc, ◌<◌, true, List, [], ◌∷◌, ◌++◌, length, get_or, take, drop, filter, sym, refl, subst, arith, eqb-true}
-use lib.Seq.{split_at}
+use Rattle.std.proofs.Math.Seq.{split_at}
 use Rattle.std.specs.List.{remove}
 use Rattle.std.specs.List.Sorted.{IsPermutation}
 use Rattle.std.proofs.lemmas.List.Sorted.{IsPermutation-refl, IsPermutation-cons, IsPermutation-trans, IsPermutation-swap}

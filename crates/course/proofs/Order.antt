@@ -1,8 +1,8 @@
 -- How the gates of a course lie to each other. Assumes nothing.
 use Rattle.std.proofs.Common.{◌≡◌, ℕ, ◌<◌, ◌≤◌, true, ◌&&◌, ltb, leb, List, length, pos, negsuc, ◌≤ℤ◌, ap, ⊎_elim, eq-or-lt_of_le, arith, ltb-true, lt-ltb, leb-true}
-use borrow.Author.Differences.{ints}
+use Rattle.std.proofs.lemmas.Int.{ints}
 use Rattle.std.proofs.lemmas.Bool.{and_parts}
-use lib.Signed.{lt_z, le_z}
+use Rattle.std.specs.Int.Signed.{lt_z, le_z}
 use lib.Ieee.Bits.{is_true}
 use Rattle.course.specs.declared.gate.Gate.{Gate}
 use Rattle.course.specs.Gates.{IsCourse, above, in_range, gate_at}

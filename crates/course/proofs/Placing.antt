@@ -1,10 +1,9 @@
 -- A gate's place among the gates of a course. Assumes nothing.
 use Rattle.std.proofs.Common.{◌≡◌, ℕ, ◌<◌, Bool, true, false, cond, ◌||◌, List, [], ◌∷◌, ◌++◌, length, take, drop, Some, None, filter, sym, refl, ap, ◌∙◌, subst, true≢false, arith, length-append}
-use lib.Seq.{take-append_seam, drop-append_seam}
-use borrow.Author.Tests.{eqb-false}
+use Rattle.std.proofs.Math.Seq.{take-append_seam, drop-append_seam}
+use Rattle.std.proofs.lemmas.Bool.{eqb-false, or_parts}
 use Rattle.std.specs.List.{insert, AllByRecursion as All}
 use Rattle.std.proofs.ByRecursion.{All-weaker, All-append, all_kept_by}
-use Rattle.std.proofs.lemmas.Bool.{or_parts}
 use Rattle.course.specs.declared.gate.Gate.{Gate}
 use Rattle.course.specs.Gates.{IsCourse, above, ordered, in_range}
 use Rattle.course.specs.Edits.{has_number, is_set, beside, with_gate}

@@ -1,6 +1,6 @@
 -- What a copy of a part leaves in the front of a list. Assumes nothing.
 use Rattle.std.proofs.Common.{◌≡◌, ℕ, suc, ◌+◌, ◌-◌, ◌<◌, ◌≤◌, List, [], ◌∷◌, ◌++◌, length, take, drop, set, sym, ap, ◌∙◌, add-one, arith, length-drop}
-use lib.Seq.{paste, take-set-lt}
+use Rattle.std.proofs.Math.Seq.{paste, take-set-lt}
 use Rattle.std.proofs.lemmas.List.{take-take, take_more_set, set-append_left, length-take-le, append_assoc}
 use Rattle.std.proofs.lemmas.List.Edits.{take-paste}
 use Rattle.std.proofs.lemmas.Slice.{between_is}

@@ -1,6 +1,6 @@
 -- How squared distances of gates grow. Assumes nothing.
 use Rattle.std.proofs.Common.{◌≡◌, ℕ, ◌+◌, ◌*◌, ◌^◌, ◌<◌, ◌≤◌, ℤ, pos, negsuc, ◌-ℤ◌, ◌*ℤ◌, nat_abs, refl, add-le-add, mul-le-mul, mul-lt-mul_of_pos_right, arith}
-use borrow.Author.Differences.{ints}
+use Rattle.std.proofs.lemmas.Int.{ints}
 use Rattle.course.specs.declared.gate.Gate.{Gate}
 use Rattle.course.specs.Distances.{square, apart}
 use Rattle.course.proofs.Order.{Under, Bounded}

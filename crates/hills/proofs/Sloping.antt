@@ -1,10 +1,9 @@
 -- Adding the gates of the slope one after another. Assumes nothing.
 use Rattle.std.proofs.Common.{◌≡◌, ℕ, zero, suc, ◌+◌, ◌<◌, ◌≤◌, true, false, cond, ◌||◌, eqb, ltb, leb, List, [], ◌∷◌, ◌++◌, map, length, pos, negsuc, ◌-ℤ◌, Some, None, filter, sym, refl, ap, ◌∙◌, arith, lt-ltb}
-use borrow.Author.Differences.{ints}
+use Rattle.std.proofs.lemmas.Int.{ints}
 use lib.Ieee.Bits.{is_true}
-use lib.ListN.{length-map}
-use lib.Signed.{lt_z, le_z}
-use Rattle.std.proofs.lemmas.List.{map-append}
+use Rattle.std.proofs.lemmas.List.{length-map, map-append}
+use Rattle.std.specs.Int.Signed.{lt_z, le_z}
 use Rattle.std.proofs.lemmas.Bool.Decides.{nat_tests}
 use Rattle.course.specs.declared.gate.Gate.{Gate}
 use Rattle.course.specs.Gates.{in_range, above, ordered}

@@ -1,7 +1,8 @@
 -- No place is nearer to two gates than the one halfway between them. Assumes nothing.
 use Rattle.std.proofs.Common.{◌≡◌, ℕ, ◌+◌, ◌-◌, ◌*◌, ◌≤◌, true, leb, List, [], ◌∷◌, length, ℤ, pos, ◌+ℤ◌, ◌-ℤ◌, ◌*ℤ◌, nat_abs, ap, ⊎_elim, add-le-add, mul_comm, add-mul, mul-le-mul, mul-add, arith, le-leb}
-use native.Mathlib.Nat.{mul-mul-mul_comm}
-use borrow.Author.Differences.{ints, up, down}
+use Rattle.std.proofs.Math.Nat.{mul-mul-mul_comm}
+use Rattle.std.proofs.lemmas.Int.{ints}
+use borrow.Author.Differences.{up, down}
 use Rattle.std.proofs.lemmas.Bool.Decides.{leb_tells}
 use Rattle.course.specs.declared.gate.Gate.{Gate}
 use Rattle.course.specs.Gates.{IsCourse, gate_at}

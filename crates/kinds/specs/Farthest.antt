@@ -1,7 +1,6 @@
 -- The two ends of a group are the farthest from any gate between them. Assumes nothing.
 use Rattle.std.specs.Prelude.{◌≡◌, ℕ, ◌<◌, ◌≤◌, max, List, [], ◌∷◌, length}
-use Rattle.std.proofs.Common.{⊎_elim}
-use native.Mathlib.Omega.{arith}
+use Rattle.std.proofs.Common.{⊎_elim, arith}
 use Rattle.std.proofs.lemmas.Bool.Decides.{leb_tells}
 use Rattle.course.specs.declared.gate.Gate.{Gate}
 use Rattle.course.specs.Gates.{IsCourse, gate_at}

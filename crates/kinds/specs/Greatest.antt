@@ -1,6 +1,6 @@
 -- The greatest value of a function at the positions of a group. Assumes nothing.
 use Rattle.std.specs.Prelude.{ℕ, ◌≤◌, List, [], ◌∷◌}
-use native.Mathlib.Omega.{arith}
+use Rattle.std.proofs.Common.{arith}
 use Rattle.costs.specs.Groups.{Rise, last_from}
 use Rattle.costs.proofs.Spans.{rise_within}
 use Rattle.kinds.specs.Extremes.{greatest}

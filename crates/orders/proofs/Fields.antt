@@ -1,6 +1,6 @@
 -- Laws of `bit_at` and `field_at`. Assumes nothing.
 use Rattle.std.proofs.Common.{◌≡◌, ℕ, zero, suc, ◌+◌, ◌-◌, ◌*◌, ◌%◌, ◌^◌, ◌<◌, ◌≤◌, List, refl, pow-suc, arith, pow_mono}
-use lib.Bits.{bit_or}
+use Rattle.std.specs.Int.Bits.{bit_or}
 use Rattle.std.proofs.lemmas.Nat.{or_shifted}
 use Rattle.orders.specs.Bits.{bit_at, field_at}
 

@@ -1,7 +1,7 @@
 -- The turns of the writer's loops. Assumes nothing.
 use Rattle.std.proofs.Common.{◌≡◌, ℕ, zero, suc, ◌+◌, ◌-◌, ◌*◌, ◌/◌, ◌^◌, ◌<◌, ◌≤◌, Bool, true, ◌&&◌, List, [], ◌∷◌, ◌++◌, length, get_or, take, drop, set, sym, ap, ◌∙◌, arith}
-use lib.Bits.{bit_and}
-use lib.Seq.{paste}
+use Rattle.std.specs.Int.Bits.{bit_and}
+use Rattle.std.proofs.Math.Seq.{paste}
 use Rattle.std.proofs.lemmas.Nat.{and_mask}
 use Rattle.std.proofs.lemmas.List.Edits.{paste_all, paste_more, paste-paste}
 use Rattle.std.proofs.lemmas.List.{append-nil, at_drop_more, at_drop_all, flat_map_more, length-append, take_all, take_at, take_more}

@@ -1,5 +1,5 @@
 use Rattle.std.proofs.Common.{◌≡◌}
-use lib.Seq.{paste}
+use Rattle.std.proofs.Math.Seq.{paste}
 use Rattle.orders.specs.Parts.{bytes_of}
 use Rattle.orders.proofs.write.put.Given as goal
 
