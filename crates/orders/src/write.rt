@@ -15,20 +15,20 @@ impl Order {
     fn fits_fields(&self) -> bool
         ensures value { result ≡ fits self.now }
     {
-        match *self {
+        match self {
             Order::Set {
                 gate,
                 distance,
                 height,
-            } => place_fits(gate, distance, height),
-            Order::Move {
+            }
+            | Order::Move {
                 gate,
                 distance,
                 height,
-            } => place_fits(gate, distance, height),
-            Order::Lift { gate } => number_fits(8, gate as u64),
-            Order::PlanFor { zones } => number_fits(6, zones as u64),
-            Order::PlanWithin { limit } => number_fits(43, limit),
+            } => place_fits(*gate, *distance, *height),
+            Order::Lift { gate } => number_fits(8, *gate as u64),
+            Order::PlanFor { zones } => number_fits(6, *zones as u64),
+            Order::PlanWithin { limit } => number_fits(43, *limit),
         }
     }
 
