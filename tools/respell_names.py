@@ -5,7 +5,8 @@ usage: python3 tools/respell_names.py [FOLDER]      FOLDER is the top of a check
 
 Functions, lemmas, fields and ghost members get snake case; a dash joins two names of definitions, and a plain word
 is added with an underscore. Functions of src/, exported names, strings, inputs and outputs keep their names. It was run
-once, after the kit's port.py. Names that would have fallen together have `_lem` at their end.
+once, after the kit's port.py, and is not for a second run: names that the prover makes today may look like old ones.
+Names that would have fallen together have `_lem` at their end.
 """
 import pathlib
 import re

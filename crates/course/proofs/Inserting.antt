@@ -14,9 +14,9 @@ use Rattle.course.proofs.Removing.{kept_fewer}
 pub count_is : (k : Course) → length (gates_of k) ≡ k.count
 count_is k = simp length-take (omega arith)
 
-pub count-above_few : (g : Gate) (gs : List Gate) → count_above g gs ≤ length gs
+pub count_above_few : (g : Gate) (gs : List Gate) → count_above g gs ≤ length gs
 unfolding count_above
-count-above_few g gs = kept_fewer (λ x. above x g) gs
+count_above_few g gs = kept_fewer (λ x. above x g) gs
 
 pub inserted_there : (gs : List Gate) (g : Gate) → IsCourse gs → Fresh gs g → insert gs (count_above g gs) g ≡ with_gate g gs
 unfolding count_above

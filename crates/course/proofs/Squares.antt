@@ -28,8 +28,8 @@ apart_within a b c d h k l =
     (square_grows (pos b.distance -ℤ pos c.distance) (pos a.distance -ℤ pos d.distance) (omega (arith, ints)))
     (square_grows (b.height -ℤ c.height) (a.height -ℤ d.height) (omega (arith, ints)))
 
-square-rises : (m n : ℕ) → m < n → m * m < n * n
-square-rises m n h =
+square_rises : (m n : ℕ) → m < n → m * m < n * n
+square_rises m n h =
     let l : m ≤ n = omega arith in
     let k : m ≤ m = omega arith in
     let z : 0 < n = omega arith in
@@ -38,7 +38,7 @@ square-rises m n h =
 -- and strictly less far where one of them is strictly between
 pub apart_strictly_within : (a b c d : Gate) → Under a b → Under b c → Under c d → a.distance + c.distance < b.distance + d.distance → apart b c < apart a d
 apart_strictly_within a b c d h k l m =
-    let near = square-rises (nat_abs (pos b.distance -ℤ pos c.distance)) (nat_abs (pos a.distance -ℤ pos d.distance)) (omega (arith, ints)) in
+    let near = square_rises (nat_abs (pos b.distance -ℤ pos c.distance)) (nat_abs (pos a.distance -ℤ pos d.distance)) (omega (arith, ints)) in
     let low = square_grows (b.height -ℤ c.height) (a.height -ℤ d.height) (omega (arith, ints)) in
     omega (arith, near, low)
 

@@ -6,7 +6,7 @@ use Rattle.course.specs.View.{gates_of}
 use Rattle.course.proofs.Kept.{is_course}
 use Rattle.course.proofs.Placing.{course_with}
 use Rattle.course.proofs.Fresh.{fresh_to_add}
-use Rattle.course.proofs.Inserting.{count_is, count-above_few, now_with}
+use Rattle.course.proofs.Inserting.{count_is, count_above_few, now_with}
 use Rattle.course.proofs.Changing.{one_more}
 use Rattle.course.proofs.course.Course.insert.Goals as goal
 
@@ -17,7 +17,7 @@ insert_at-requires c =
     let f = fresh_to_add (gates_of k) g c.requires.allowed in
     let n = count_is k in
     let a = c.count_above-at.ensures.above_it ∙ ap (count_above g) c.gates.ensures.from_the_top in
-    record { place = omega (arith, count-above_few g (gates_of k)); room = omega (arith, f.room, k.wide) }
+    record { place = omega (arith, count_above_few g (gates_of k)); room = omega (arith, f.room, k.wide) }
 
 pub invariant_of-self : goal.invariant_of-self
 invariant_of-self c =
