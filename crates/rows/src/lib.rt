@@ -1,0 +1,6 @@
+// Rows of a few items, which are kept in place.
+#![tactic(auto)]
+
+mod row;
+
+pub use row::Row;
