@@ -1,5 +1,6 @@
 -- What an edit of a course answers and leaves. Assumes nothing.
-use Rattle.std.specs.Prelude.{ℕ, Bool, false, cond, not, ◌||◌, List, [], ◌∷◌, ◌++◌, length, Some, None, Ok, Err, filter, Option, Result, ◌==◌, nat_le}
+use Rattle.std.specs.Prelude.{ℕ, Bool, cond, not, ◌||◌, List, [], ◌∷◌, ◌++◌, length, Some, None, Ok, Err, filter, Option, Result, ◌==◌, nat_le}
+use Rattle.std.specs.List.{list_any}
 use Rattle.course.specs.declared.gate.Gate.{Gate}
 use Rattle.course.specs.declared.refusal.Refusal.{Refusal}
 use Rattle.course.specs.declared.refusal.Refusal.TheVariants.{OutOfRange, AlreadySet, NotSet, Full, Beside}
@@ -19,8 +20,7 @@ has_number n g = g.number == n
 
 -- some gate has this number
 unfoldable pub is_set : ℕ → List Gate → Bool
-is_set n [] = false
-is_set n (g ∷ gs) = has_number n g || is_set n gs
+is_set n gs = list_any (has_number n) gs
 
 -- the number of the topmost gate that has another number than g and is neither above nor below g
 unfoldable pub beside : Gate → List Gate → Option ℕ

@@ -5,3 +5,4 @@ pub mod Edits
 pub mod Parts
 pub mod Causes
 pub mod Changes
+pub mod Text

@@ -1,8 +1,8 @@
 // A course: at most 200 gates, from the top down.
-ghost use Rattle.std.specs.Prelude.{◌≡◌, ◌≤◌, length, take};
-ghost use Rattle.course.specs.Gates.{Ranged, Distinct, Descends};
+ghost use Rattle.course.specs.Gates.{IsCourse};
 
 use crate::gate::Gate;
+use rows::Row;
 
 mod edits;
 mod questions;
@@ -13,11 +13,6 @@ pub const MAX_GATES: usize = 200;
 // Gates in range, with different numbers, each above all that come after it.
 #[derive(Clone, Copy)]
 pub struct Course {
-    gates: [Gate; 200],
-    count: usize,
-    ghost wide: { length gates ≡ 200 },
-    ghost few: { count ≤ 200 },
-    ghost ranged: { Ranged (take count gates) },
-    ghost distinct: { Distinct (take count gates) },
-    ghost descends: { Descends (take count gates) },
+    gates: Row<Gate, 200>,
+    ghost course: { IsCourse gates.items },
 }

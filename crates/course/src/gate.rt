@@ -2,6 +2,8 @@
 ghost use Rattle.std.specs.Prelude.{◌≡◌};
 ghost use Rattle.course.specs.Gates.{above, in_range, ordered};
 
+use std::fmt;
+
 // The greatest distance from the start, in centimetres.
 pub const MAX_DISTANCE: u32 = 1_048_575;
 
@@ -12,7 +14,7 @@ pub const MIN_HEIGHT: i32 = -524_288;
 pub const MAX_HEIGHT: i32 = 524_287;
 
 // A gate: its number, its distance from the start and its height against the finish, both in centimetres.
-#[derive(Clone, Copy, Debug, PartialEq)]
+#[derive(Clone, Copy, Debug, Default, PartialEq, Eq)]
 pub struct Gate {
     pub number: u8,
     pub distance: u32,
@@ -39,5 +41,17 @@ impl Gate {
         ensures one_above_the_other { result ≡ ordered self other }
     {
         self.is_above(other) || other.is_above(self)
+    }
+}
+
+// Its number, its distance and its height, with a space between.
+impl fmt::Display for Gate {
+    ghost use Rattle.std.specs.Prelude.{Some};
+    ghost use Rattle.course.specs.Text.{gate_words};
+
+    ghost output = { λ g. Some (gate_words g) };
+
+    fn fmt<W: fmt::Write>(&self, f: &mut fmt::Formatter<W>) -> fmt::Result {
+        write!(f, "{} {} {}", self.number, self.distance, self.height)
     }
 }

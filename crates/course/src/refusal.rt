@@ -2,7 +2,9 @@
 ghost use Rattle.std.specs.Prelude.{◌≡◌};
 ghost use Rattle.course.specs.Edits.{refusal_number};
 
-#[derive(Clone, Copy, Debug, PartialEq)]
+use std::fmt;
+
+#[derive(Clone, Copy, Debug, PartialEq, Eq)]
 pub enum Refusal {
     // The distance or the height is out of range.
     OutOfRange,
@@ -26,6 +28,21 @@ impl Refusal {
             Refusal::NotSet => 3,
             Refusal::Full => 4,
             Refusal::Beside(_) => 5,
+        }
+    }
+}
+
+// Its number, and then, after a space, the number of the gate that it tells, if it tells one.
+impl fmt::Display for Refusal {
+    ghost use Rattle.std.specs.Prelude.{Some};
+    ghost use Rattle.course.specs.Text.{refusal_words};
+
+    ghost output = { λ r. Some (refusal_words r) };
+
+    fn fmt<W: fmt::Write>(&self, f: &mut fmt::Formatter<W>) -> fmt::Result {
+        match self {
+            Refusal::Beside(gate) => write!(f, "{} {}", self.number(), gate),
+            _ => write!(f, "{}", self.number()),
         }
     }
 }

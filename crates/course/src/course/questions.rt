@@ -5,20 +5,15 @@ ghost use Rattle.course.specs.View.{gates_of};
 
 use crate::course::Course;
 use crate::gate::Gate;
+use rows::Row;
 
 impl Course {
     // A course with no gates.
     pub fn new() -> Course
         ensures no_gates { gates_of result ≡ [] }
     {
-        let unused = Gate {
-            number: 0,
-            distance: 0,
-            height: 0,
-        };
         Course {
-            gates: [unused; 200],
-            count: 0,
+            gates: Row::new(Gate::default()),
         }
     }
 
@@ -27,7 +22,7 @@ impl Course {
         ensures from_the_top { result.now ≡ gates_of self.now }
         ensures a_course { IsCourse result.now }
     {
-        &self.gates[0..self.count]
+        self.gates.as_slice()
     }
 
     // How many gates there are.
