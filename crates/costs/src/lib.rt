@@ -1,7 +1,7 @@
 // The interface behind which every cost kind stands: what spans and groups of gates cost, and where masts go.
 #![tactic(auto)]
 
-ghost use Rattle.std.specs.Prelude.{◌≡◌, ℕ, Bool, List, nat_le};
+ghost use Rattle.std.specs.Prelude.{◌≡◌, ℕ, Bool, List, Some, nat_le};
 ghost use Rattle.course.specs.declared.gate.Gate.{Gate};
 ghost use Rattle.course.specs.View.{gates_of};
 ghost use Rattle.costs.specs.declared.mast.Mast.{Mast};
@@ -15,7 +15,7 @@ mod mast;
 mod span;
 
 pub use mast::Mast;
-pub use span::is_span;
+pub use span::{Span, is_span};
 
 // A cost kind: its values and their order, and what every span and every group of gates of a course costs.
 pub trait Cost {
@@ -34,9 +34,16 @@ pub trait Cost {
     // The value that a whole number reads as.
     ghost reads_as: { Self → ℕ → Self.Value };
 
+    // The cost of a span.
+    fn span_cost(&self, span: &Span) -> Self::Value
+        ensures cost_of_it { result ≡ span_cost self.now span.now.gates.now span.now.first span.now.last };
+
     // The cost of the span from `first` to `last`, and none where this is no span of the course.
     fn span(&self, course: &Course, first: usize, last: usize) -> Option<Self::Value>
-        ensures cost_of_the_span { result ≡ of_span (gates_of course.now) first last (span_cost self.now (gates_of course.now) first last) };
+        ensures cost_of_the_span { result ≡ of_span (gates_of course.now) first last (span_cost self.now (gates_of course.now) first last) }
+    {
+        Some(self.span_cost(&Span::of(course, first, last)?))
+    }
 
     // Whether `a` is not greater than `b`.
     fn not_greater(a: Self::Value, b: Self::Value) -> bool
@@ -60,8 +67,16 @@ pub trait Masted: Cost {
     // The mast of the span of the gates from one position to another.
     ghost mast_of: { Self → List Gate → ℕ → ℕ → Mast };
 
+    // The mast of a span.
+    fn span_mast(&self, span: &Span) -> Mast
+        ensures mast_of_it { result ≡ mast_of self.now span.now.gates.now span.now.first span.now.last }
+        ensures reaches_every_gate { ReachesAll Self.Cost.not_greater (Self.Cost.reads_as self.now) (Self.Cost.span_cost self.now span.now.gates.now span.now.first span.now.last) span.now.gates.now span.now.first span.now.last (Some result) };
+
     // The mast of the span from `first` to `last`, and none where this is no span of the course.
     fn mast(&self, course: &Course, first: usize, last: usize) -> Option<Mast>
         ensures mast_of_the_span { result ≡ of_span (gates_of course.now) first last (mast_of self.now (gates_of course.now) first last) }
-        ensures reaches_every_gate { ReachesAll Self.Cost.not_greater (Self.Cost.reads_as self.now) (Self.Cost.span_cost self.now (gates_of course.now) first last) (gates_of course.now) first last result };
+        ensures reaches_every_gate { ReachesAll Self.Cost.not_greater (Self.Cost.reads_as self.now) (Self.Cost.span_cost self.now (gates_of course.now) first last) (gates_of course.now) first last result }
+    {
+        Some(self.span_mast(&Span::of(course, first, last)?))
+    }
 }
