@@ -1,3 +1,1 @@
-pub mod Finding
 pub mod Tables
-pub mod Testing

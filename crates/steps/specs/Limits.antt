@@ -1,5 +1,6 @@
 -- Lists of limits, and which of them make a table. Limits count from 1. Assumes nothing.
 use Rattle.std.specs.Prelude.{◌≡◌, ℕ, ◌-◌, ◌<◌, ◌≤◌, Bool, true, ◌&&◌, List, [], ◌∷◌, length, nat_le, nat_lt, slice_index}
+use Rattle.std.specs.List.{list_all}
 
 -- the limit with this number
 abbrev pub limit_at : List ℕ → ℕ → ℕ
@@ -10,19 +11,14 @@ abbrev pub in_range : ℕ → Bool
 in_range l = nat_le 1 l && nat_le l 8796093022207
 
 -- every limit is in range
-unfoldable pub all_in_range : List ℕ → Bool
-all_in_range [] = true
-all_in_range (l ∷ ls) = in_range l && all_in_range ls
-
--- the first of the limits is greater than p, and each other than the one before
-unfoldable pub rises_from : ℕ → List ℕ → Bool
-rises_from p [] = true
-rises_from p (l ∷ ls) = nat_lt p l && rises_from l ls
+abbrev pub all_in_range : List ℕ → Bool
+all_in_range ls = list_all in_range ls
 
 -- each limit is greater than the one before
-abbrev pub rises : List ℕ → Bool
+unfoldable pub rises : List ℕ → Bool
 rises [] = true
-rises (l ∷ ls) = rises_from l ls
+rises (l ∷ []) = true
+rises (l ∷ m ∷ ls) = nat_lt l m && rises (m ∷ ls)
 
 -- there are 1 to 8 limits
 abbrev pub count_fits : List ℕ → Bool

@@ -1,5 +1,6 @@
 -- Steps: their order, and the step of a number. Assumes nothing.
-use Rattle.std.specs.Prelude.{◌≡◌, ℕ, ◌+◌, ◌<◌, ◌≤◌, Bool, true, false, cond, List, [], ◌∷◌, length, nat_le}
+use Rattle.std.specs.Prelude.{◌≡◌, ℕ, ◌+◌, ◌<◌, ◌≤◌, Bool, true, false, List, length, nat_le, position}
+use Rattle.std.specs.Option.{option_map_or}
 use Rattle.steps.specs.declared.step.Step.{Step}
 use Rattle.steps.specs.declared.step.Step.TheVariants.{At, Beyond}
 use Rattle.steps.specs.Limits.{limit_at}
@@ -11,18 +12,9 @@ step_not_greater (At i) (Beyond n) = true
 step_not_greater (Beyond m) (At j) = false
 step_not_greater (Beyond m) (Beyond n) = nat_le m n
 
--- a limit is not smaller than the number
-abbrev pub inside : ℕ → ℕ → Bool
-inside limit n = nat_le n limit
-
--- the step of n where the first of the limits has the number k
-unfoldable pub step_from : ℕ → List ℕ → ℕ → Step
-step_from k [] n = Beyond n
-step_from k (l ∷ ls) n = cond (inside l n) (At k) (step_from (k + 1) ls n)
-
--- the first step whose limit is not smaller than n, and n itself where there is none
-abbrev pub step_of : List ℕ → ℕ → Step
-step_of ls n = step_from 1 ls n
+-- the step of n: the first whose limit is not smaller, and n itself where there is none
+unfoldable pub step_of : List ℕ → ℕ → Step
+step_of ls n = option_map_or (λ i. At (i + 1)) (position (λ l. nat_le n l) ls) (Beyond n)
 
 -- limit i is the first that is not smaller than n
 pub record FirstInside (ls : List ℕ) (n i : ℕ) : Type 0 where

@@ -1,17 +1,12 @@
 // A cost kind in steps, over a kind whose costs are whole numbers.
-ghost use Rattle.std.specs.Prelude.{◌≡◌};
 ghost use Rattle.std.proofs.Common.{sym, ap, ◌∙◌};
-ghost use Rattle.course.specs.View.{gates_of};
-ghost use Rattle.costs.specs.Groups.{of_span};
-ghost use Rattle.steps.specs.Parts.{ReachesInStep};
 ghost use Rattle.steps.specs.Steps.{step_not_greater, step_of};
 ghost use Rattle.steps.specs.View.{limits_of};
 ghost use Rattle.steps.specs.Monotone.{steps_monotone, steps_reflexive, steps_transitive, steps_antisymmetric, steps_total};
 
 use crate::limits::Limits;
 use crate::step::Step;
-use costs::{Cost, Mast, Masted, Whole};
-use course::Course;
+use costs::{Cost, Mast, Masted, Span, Whole};
 
 // The kind `below`, whose costs are turned into steps by a table of limits.
 #[derive(Clone, Copy)]
@@ -40,18 +35,12 @@ impl<C: Whole> Cost for Steps<C> {
           hull = λ s gs ps course group. steps_monotone (limits_of s.limits) _ _ (sym (usual _ _) ∙ below.hull s.below gs ps course group);
         } };
 
-    fn span(&self, course: &Course, first: usize, last: usize) -> Option<Step> {
-        let cost = self.below.span(course, first, last)?;
-        Some(self.limits.step_of(cost))
+    fn span_cost(&self, span: &Span) -> Step {
+        self.limits.step_of(self.below.span_cost(span))
     }
 
     fn not_greater(a: Step, b: Step) -> bool {
-        match (a, b) {
-            (Step::At(i), Step::At(j)) => i <= j,
-            (Step::At(_), Step::Beyond(_)) => true,
-            (Step::Beyond(_), Step::At(_)) => false,
-            (Step::Beyond(m), Step::Beyond(n)) => m <= n,
-        }
+        a <= b
     }
 
     fn read(&self, n: u64) -> Step {
@@ -59,20 +48,10 @@ impl<C: Whole> Cost for Steps<C> {
     }
 }
 
-impl<C: Whole + Masted> Steps<C> {
-    // The mast of the kind below serves at the step of its cost.
-    fn mast_below(&self, course: &Course, first: usize, last: usize) -> Option<Mast>
-        ensures mast { result ≡ of_span (gates_of course.now) first last (C.Masted.mast_of self.now.below (gates_of course.now) first last) }
-        ensures reaches { ReachesInStep (limits_of self.now.limits) (C.Cost.reads_as self.now.below) (C.Cost.span_cost self.now.below (gates_of course.now) first last) (gates_of course.now) first last result }
-    {
-        self.below.mast(course, first, last)
-    }
-}
-
 impl<C: Whole + Masted> Masted for Steps<C> {
     ghost mast_of = { λ s gs first last. C.Masted.mast_of s.below gs first last };
 
-    fn mast(&self, course: &Course, first: usize, last: usize) -> Option<Mast> {
-        self.mast_below(course, first, last)
+    fn span_mast(&self, span: &Span) -> Mast {
+        self.below.span_mast(span)
     }
 }

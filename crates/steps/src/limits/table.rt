@@ -1,8 +1,8 @@
 // Makes a table of limits, and tells the step of a number.
-ghost use Rattle.std.specs.Prelude.{◌≡◌, ◌≤◌, true, length, nat_lt};
-ghost use Rattle.steps.specs.Limits.{in_range, all_in_range, rises, count_fits, lawful_limits};
-ghost use Rattle.steps.specs.Parts.{padded, RightlyTold};
-ghost use Rattle.steps.specs.Steps.{inside, step_of, OneStep};
+ghost use Rattle.std.specs.Prelude.{◌≡◌, ◌<◌, ◌≤◌, true, length, nat_le, position, IfSome};
+ghost use Rattle.steps.specs.Limits.{all_in_range, rises, lawful_limits};
+ghost use Rattle.steps.specs.Parts.{padded};
+ghost use Rattle.steps.specs.Steps.{step_of, OneStep};
 ghost use Rattle.steps.specs.View.{limits_of, MadeFrom, RightlyTaken};
 
 use crate::fault::StepFault;
@@ -26,7 +26,16 @@ impl Limits {
         ensures first_limit_not_smaller { result ≡ step_of (limits_of self.now) n }
         ensures within_it_and_past_all_before { OneStep (limits_of self.now) n result }
     {
-        step_under(self.as_slice(), n)
+        self.first_inside(n)
+            .map_or(Step::Beyond(n), |i| Step::At(i as u8 + 1))
+    }
+
+    // The index of the first limit that is not smaller than a number.
+    fn first_inside(&self, n: u64) -> Option<usize>
+        ensures first { result ≡ position (λ l. nat_le n l) (limits_of self.now) }
+        ensures few { IfSome result (λ i. i < 8) }
+    {
+        self.as_slice().iter().position(|limit| n <= *limit)
     }
 
     // The limits alone, without the cells after them.
@@ -38,60 +47,25 @@ impl Limits {
     }
 }
 
-// Whether a limit is one that a table may have.
-fn is_in_range(limit: u64) -> bool
-    ensures within_the_bounds { result ≡ in_range limit }
-{
-    limit >= 1 && limit <= MAX_LIMIT
-}
-
 // Whether every limit is in range.
 fn all_in_range(limits: &[u64]) -> bool
     ensures all_within_the_bounds { result ≡ all_in_range limits.now }
 {
-    for limit in limits {
-        if !is_in_range(*limit) {
-            return false;
-        }
-    }
-    true
-}
-
-// Whether a limit may come next after another.
-fn may_follow(limit: u64, before: u64) -> bool
-    ensures greater { result ≡ nat_lt before limit }
-{
-    limit > before
+    limits.iter().all(|limit| (1..=MAX_LIMIT).contains(limit))
 }
 
 // Whether each limit is greater than the one before.
 fn rise(limits: &[u64]) -> bool
     ensures each_greater { result ≡ rises limits.now }
 {
-    for i in 1..limits.len() {
-        if !may_follow(limits[i], limits[i - 1]) {
-            return false;
-        }
-    }
-    true
-}
-
-// Whether there are neither too few limits nor too many.
-fn count_fits(limits: &[u64]) -> bool
-    ensures from_one_to_eight { result ≡ count_fits limits.now }
-{
-    !limits.is_empty() && limits.len() <= MAX_LIMITS
+    limits.is_sorted_by(|a, b| a < b)
 }
 
 // Whether the limits make a table.
 fn are_lawful(limits: &[u64]) -> bool
     ensures lawful { result ≡ lawful_limits limits.now }
-    ensures just_where_a_table { RightlyTold result limits.now }
 {
-    if !count_fits(limits) || !all_in_range(limits) {
-        return false;
-    }
-    rise(limits)
+    (1..=MAX_LIMITS).contains(&limits.len()) && all_in_range(limits) && rise(limits)
 }
 
 // The cells of a table: the limits, and then zeros.
@@ -113,27 +87,6 @@ fn table_of(limits: &[u64]) -> Limits
         cells: cells_of(limits),
         count: limits.len(),
     }
-}
-
-// Whether a number is within the step of this limit.
-fn is_inside(limit: u64, n: u64) -> bool
-    ensures not_smaller { result ≡ inside limit n }
-{
-    n <= limit
-}
-
-// The step of a number under limits that are few enough to count in a byte.
-fn step_under(limits: &[u64], n: u64) -> Step
-    requires few { length limits.now ≤ 8 }
-    ensures step { result ≡ step_of limits.now n }
-    ensures one_step { OneStep limits.now n result }
-{
-    for (i, limit) in limits.iter().enumerate() {
-        if is_inside(*limit, n) {
-            return Step::At(i as u8 + 1);
-        }
-    }
-    Step::Beyond(n)
 }
 
 #[cfg(test)]
