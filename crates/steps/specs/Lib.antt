@@ -2,5 +2,5 @@ pub mod Faults
 pub mod Limits
 pub mod View
 pub mod Steps
-pub mod Parts
 pub mod Monotone
+pub mod Texts

@@ -2,7 +2,7 @@
 ghost use Rattle.std.proofs.Common.{sym, ap, ◌∙◌};
 ghost use Rattle.steps.specs.Steps.{step_not_greater, step_of};
 ghost use Rattle.steps.specs.View.{limits_of};
-ghost use Rattle.steps.specs.Monotone.{steps_monotone, steps_reflexive, steps_transitive, steps_antisymmetric, steps_total};
+ghost use Rattle.steps.specs.Monotone.{step_order, steps_monotone};
 
 use crate::limits::Limits;
 use crate::step::Step;
@@ -29,7 +29,7 @@ impl<C: Whole> Cost for Steps<C> {
     ghost lawful = { let below = C.Cost.lawful in
         let usual = C.Whole.usual in
         record {
-          order = record { reflexive = steps_reflexive; transitive = steps_transitive; antisymmetric = steps_antisymmetric; total = steps_total };
+          order = step_order;
           whole = λ s gs i j course span. ap (step_of (limits_of s.limits)) (below.whole s.below gs i j course span);
           nested = λ s gs a i j b course span h k l. steps_monotone (limits_of s.limits) _ _ (sym (usual _ _) ∙ below.nested s.below gs a i j b course span h k l);
           hull = λ s gs ps course group. steps_monotone (limits_of s.limits) _ _ (sym (usual _ _) ∙ below.hull s.below gs ps course group);

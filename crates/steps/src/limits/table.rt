@@ -1,16 +1,17 @@
 // Makes a table of limits, and tells the step of a number.
-ghost use Rattle.std.specs.Prelude.{◌≡◌, ◌<◌, ◌≤◌, true, length, nat_le, position, IfSome};
+ghost use Rattle.std.specs.Prelude.{◌≡◌, ◌<◌, nat_le, position, IfSome};
 ghost use Rattle.steps.specs.Limits.{all_in_range, rises, lawful_limits};
-ghost use Rattle.steps.specs.Parts.{padded};
 ghost use Rattle.steps.specs.Steps.{step_of, OneStep};
 ghost use Rattle.steps.specs.View.{limits_of, MadeFrom, RightlyTaken};
 
 use crate::fault::StepFault;
 use crate::limits::{Limits, MAX_LIMIT, MAX_LIMITS};
 use crate::step::Step;
+use rows::Row;
 
 impl Limits {
     // A table of these limits, if they make one.
+    #[tactic(auto, using(crate::proofs::Tables::table_lawful))]
     pub fn new(limits: &[u64]) -> Result<Limits, StepFault>
         ensures table_or_refusal { MadeFrom result limits.now }
         ensures taken_just_where_a_table { RightlyTaken result limits.now }
@@ -18,7 +19,8 @@ impl Limits {
         if !are_lawful(limits) {
             return Err(StepFault::BadLimits);
         }
-        Ok(table_of(limits))
+        let limits = Row::from_slice(0, limits).ok_or(StepFault::BadLimits)?;
+        Ok(Limits { limits })
     }
 
     // The step of a number: the first whose limit is not smaller.
@@ -35,15 +37,7 @@ impl Limits {
         ensures first { result ≡ position (λ l. nat_le n l) (limits_of self.now) }
         ensures few { IfSome result (λ i. i < 8) }
     {
-        self.as_slice().iter().position(|limit| n <= *limit)
-    }
-
-    // The limits alone, without the cells after them.
-    fn as_slice(&self) -> &[u64]
-        ensures limits { result.now ≡ limits_of self.now }
-        ensures few { length result.now ≤ 8 }
-    {
-        &self.cells[..self.count]
+        self.limits.as_slice().iter().position(|limit| n <= *limit)
     }
 }
 
@@ -66,27 +60,6 @@ fn are_lawful(limits: &[u64]) -> bool
     ensures lawful { result ≡ lawful_limits limits.now }
 {
     (1..=MAX_LIMITS).contains(&limits.len()) && all_in_range(limits) && rise(limits)
-}
-
-// The cells of a table: the limits, and then zeros.
-fn cells_of(limits: &[u64]) -> [u64; 8]
-    requires few { length limits.now ≤ 8 }
-    ensures cells { result ≡ padded limits.now }
-{
-    let mut cells = [0; 8];
-    cells[..limits.len()].copy_from_slice(limits);
-    cells
-}
-
-// The table of limits that make one.
-fn table_of(limits: &[u64]) -> Limits
-    requires lawful { lawful_limits limits.now ≡ true }
-    ensures table { limits_of result ≡ limits.now }
-{
-    Limits {
-        cells: cells_of(limits),
-        count: limits.len(),
-    }
 }
 
 #[cfg(test)]

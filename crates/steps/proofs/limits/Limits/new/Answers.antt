@@ -1,8 +1,9 @@
-use Rattle.std.proofs.Common.{sym, ◌∙◌}
-use Rattle.std.proofs.lemmas.Bool.{false≢true}
-use Rattle.steps.proofs.Tables.{table_lawful}
+use Rattle.std.proofs.Common.{◌≡◌, true, rules}
+use Rattle.steps.specs.Limits.{lawful_limits}
+use Rattle.steps.proofs.Tables.{lawful_table}
 use Rattle.steps.proofs.limits.Limits.new.Goals as goal
 
-pub returns-then-not-are_lawful-clause-taken_just_where_a_table :
-    goal.returns-then-not-are_lawful-clause-taken_just_where_a_table
-returns-then-not-are_lawful-clause-taken_just_where_a_table c = λ t. false≢true (sym c.if-not-are_lawful.true ∙ c.are_lawful.ensures.lawful ∙ table_lawful _ t)
+pub invariant_of-result : goal.invariant_of-result
+invariant_of-result c =
+    let e : lawful_limits c.in_ok-limits.limits.items ≡ true = search rules in
+    record { table = lawful_table _ e }
