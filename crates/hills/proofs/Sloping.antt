@@ -1,16 +1,17 @@
 -- Adding the gates of the slope one after another. Assumes nothing.
-use Rattle.std.proofs.Common.{◌≡◌, ℕ, zero, suc, ◌+◌, ◌<◌, ◌≤◌, true, false, cond, ◌||◌, eqb, ltb, leb, List, [], ◌∷◌, ◌++◌, map, length, pos, negsuc, ◌-ℤ◌, Some, None, filter, sym, refl, ap, ◌∙◌, arith, lt-ltb}
+use Rattle.std.proofs.Common.{◌≡◌, ℕ, zero, suc, ◌+◌, ◌<◌, ◌≤◌, true, false, cond, ◌||◌, eqb, ltb, leb, List, [], ◌∷◌, ◌++◌, map, length, get_or, pos, negsuc, ◌-ℤ◌, Some, None, filter, sym, refl, ap, ◌∙◌, arith, lt-ltb}
 use Rattle.std.proofs.lemmas.Int.{ints}
 use lib.Ieee.Bits.{is_true}
-use Rattle.std.proofs.lemmas.List.{length-map, map-append}
+use Rattle.std.proofs.lemmas.List.{ext_get_or, length-map, map-append}
 use Rattle.std.specs.Int.Signed.{lt_z, le_z}
 use Rattle.std.proofs.lemmas.Bool.Decides.{nat_tests}
 use Rattle.course.specs.declared.gate.Gate.{Gate}
-use Rattle.course.specs.Gates.{in_range, above, ordered}
+use Rattle.course.specs.Gates.{in_range, no_gate, above, ordered}
 use Rattle.course.specs.Edits.{is_set, beside, add_refusal, with_gate, leaves, after_add}
 use Rattle.costs.specs.Groups.{positions}
 use Rattle.costs.proofs.Spans.{positions_end, length-positions}
 use Rattle.hills.specs.Hills.{slope_gate, slope}
+use Rattle.hills.specs.Parts.{added_all}
 
 -- a gate is below all these, and has a number of its own
 pub record Lowest (g : Gate) (gs : List Gate) : Type 0 where
@@ -51,7 +52,7 @@ slope_in_range n h =
     let high : le_z (pos 0 -ℤ pos n) (pos 524287) ≡ true = is_true _ (omega (arith, ints)) in
     rw (d, deep, high)
 
-pub slope_next : (n : ℕ) → n < 200 → after_add (slope n) (slope_gate n) ≡ slope (n + 1)
+slope_next : (n : ℕ) → n < 200 → after_add (slope n) (slope_gate n) ≡ slope (n + 1)
 slope_next n h =
     let l = lowest n 0 n (omega arith) in
     let few : leb 200 (length (slope n)) ≡ false = let m = length-map (positions 0 n) slope_gate ∙ length-positions 0 n in grind (arith, nat_tests) in
@@ -64,6 +65,27 @@ slope_next n h =
     ∙ (λ i. l.upper i ++ slope_gate n ∷ l.lower i)
     ∙ end
 
-pub slope_none : [] ≡ slope 0
+-- gates like those of the slope, as many, are the slope
+slope_at : (p n i j : ℕ) → i < n → p + i ≡ j → get_or (map slope_gate (positions p n)) i no_gate ≡ slope_gate j
 unfolding positions
-slope_none = refl
+slope_at p zero i j h e = absurd (omega arith)
+slope_at p (suc n) zero j h e = let f : p ≡ j = omega arith in ap slope_gate f
+slope_at p (suc n) (suc i) j h e = slope_at (suc p) n i j (omega arith) (omega arith)
+
+pub slope_made : (xs : List Gate) (n : ℕ) → length xs ≡ n → ((i : ℕ) → i < n → get_or xs i no_gate ≡ slope_gate i) → xs ≡ slope n
+slope_made xs n long each =
+    let l = length-map (positions 0 n) slope_gate ∙ length-positions 0 n in
+    ext_get_or no_gate xs (slope n) (long ∙ sym l) (λ i h. each i (omega arith) ∙ sym (slope_at 0 n i i (omega arith) (omega arith)))
+
+-- adding its gates one after another gives all of them
+added_on : (n k m : ℕ) → n + k ≡ m → m ≤ 200 → added_all (slope n) (map slope_gate (positions n k)) ≡ slope m
+unfolding added_all positions
+added_on n zero m e h = let f : n ≡ m = omega arith in ap slope f
+added_on n (suc k) m e h =
+    let one : n + 1 ≡ suc n = omega arith in
+    ap (λ (l : List Gate). added_all l (map slope_gate (positions (suc n) k))) (slope_next n (omega arith) ∙ ap slope one)
+    ∙ added_on (suc n) k m (omega arith) h
+
+pub slope_added : (n : ℕ) → n ≤ 200 → added_all [] (slope n) ≡ slope n
+unfolding positions
+slope_added n h = added_on 0 n n (omega arith) h

@@ -1,16 +1,17 @@
 // The two sample hills and a full course.
-ghost use Rattle.std.specs.Prelude.{◌≡◌, ◌≤◌, []};
+ghost use Rattle.std.specs.Prelude.{◌≡◌, ◌<◌, []};
 ghost use Rattle.course.specs.View.{gates_of};
 ghost use Rattle.hills.specs.Hills.{gate, hill_h, hill_v, slope_gate, slope};
 ghost use Rattle.hills.specs.Parts.{added_all};
 
 use course::{Course, Gate};
+use std::array;
 
 // Hill H.
+#[tactic(auto, using(crate::proofs::Adding::hill_h_added))]
 pub fn hill_h() -> Course
     ensures gates_of_h { gates_of result ≡ hill_h }
 {
-    hills_are_courses();
     course_of(&[
         gate(1, 0, 900),
         gate(2, 300, 500),
@@ -20,10 +21,10 @@ pub fn hill_h() -> Course
 }
 
 // Hill V.
+#[tactic(auto, using(crate::proofs::Adding::hill_v_added))]
 pub fn hill_v() -> Course
     ensures gates_of_v { gates_of result ≡ hill_v }
 {
-    hills_are_courses();
     course_of(&[
         gate(1, 0, 0),
         gate(2, 10, -10),
@@ -39,7 +40,8 @@ pub fn hill_v() -> Course
 pub fn full_course() -> Course
     ensures gates_of_the_slope { gates_of result ≡ slope 200 }
 {
-    slope_of(200)
+    let gates: [Gate; 200] = array::from_fn(slope_gate);
+    course_of(&gates)
 }
 
 // The course of these gates, added one after another to a new one.
@@ -64,27 +66,10 @@ fn gate(number: u8, distance: u32, height: i32) -> Gate
     }
 }
 
-// Adding the gates of each hill one after another gives all of them.
-fn hills_are_courses()
-    ensures hill_h { added_all [] hill_h ≡ hill_h }
-    ensures hill_v { added_all [] hill_v ≡ hill_v }
-{}
-
 // The gate with this number on the slope.
-fn slope_gate(number: u8) -> Gate
+fn slope_gate(number: usize) -> Gate
+    requires few { number < 200 }
     ensures placed { result ≡ slope_gate number }
 {
-    gate(number, number as u32, -(number as i32))
-}
-
-// The course of the first gates of the slope, so many, added one after another to a new one.
-fn slope_of(count: u8) -> Course
-    requires few { count ≤ 200 }
-    ensures gates_of_the_slope { gates_of result ≡ slope count }
-{
-    let mut course = Course::new();
-    for number in 0..count {
-        let _ = course.add(slope_gate(number));
-    }
-    course
+    gate(number as u8, number as u32, -(number as i32))
 }

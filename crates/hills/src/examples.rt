@@ -9,7 +9,6 @@ pub fn figures_of_h() -> Figures
     ensures as_the_definitions_say { result ≡ figures_of_h }
     ensures these_numbers { result ≡ numbers_of_h }
 {
-    definitions_give();
     Figures {
         gate_mast_1_to_3: (1_000_000, 2),
         gate_mast_1_to_4: (3_920_000, 2),
@@ -21,8 +20,3 @@ pub fn figures_of_h() -> Figures
         trench_of_one: 0,
     }
 }
-
-// The definitions give these numbers.
-fn definitions_give()
-    ensures numbers { numbers_of_h ≡ figures_of_h }
-{}

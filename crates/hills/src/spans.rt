@@ -1,9 +1,9 @@
 // What every span of a course costs, as text.
-ghost use Rattle.std.specs.Prelude.{◌≡◌, ◌≤◌, true, IfOk, string_bytes, decimal};
+ghost use Rattle.std.specs.Prelude.{◌≡◌, ℕ, ◌≤◌, List, true, IfOk, string_bytes, decimal};
 ghost use Rattle.course.specs.View.{gates_of};
-ghost use Rattle.costs.specs.Groups.{is_span};
+ghost use Rattle.costs.specs.Groups.{is_span, span};
 ghost use Rattle.steps.specs.View.{limits_of};
-ghost use Rattle.hills.specs.Text.{mast_line, trench_line, step_word, step_limits, step_line, span_text, spans_from, later_spans, spans_text};
+ghost use Rattle.hills.specs.Text.{mast_line, trench_line, step_word, step_limits, step_line, span_text, each_text, spans_from, spans_text};
 
 use costs::{Cost, Mast, Masted, Whole};
 use course::Course;
@@ -15,7 +15,7 @@ use steps::{Limits, Step, Steps};
 pub fn spans_text(heap: Global, course: &Course) -> Result<String, AllocError>
     ensures four_lines_for_each_span { IfOk result (λ s. string_bytes s ≡ spans_text (gates_of course.now)) }
 {
-    later_spans(heap, course, 1)
+    each_position(heap, 1, course.count(), |first| spans_from(heap, course, first))
 }
 
 // The line of a span's cost and its mast.
@@ -115,23 +115,23 @@ fn spans_from(heap: Global, course: &Course, first: usize) -> Result<String, All
     requires counted { 1 ≤ first }
     ensures text { IfOk result (λ s. string_bytes s ≡ spans_from (gates_of course.now) first) }
 {
-    let mut text = String::new(heap);
-    for last in first..course.count() + 1 {
-        let lines = span_text(heap, course, first, last)?;
-        text.push_str(lines.as_str())?;
-    }
-    Ok(text)
+    each_position(heap, first, course.count(), |last| span_text(heap, course, first, last))
 }
 
-// The spans whose first position is this one or a later one.
-fn later_spans(heap: Global, course: &Course, from: usize) -> Result<String, AllocError>
-    requires counted { 1 ≤ from }
-    ensures text { IfOk result (λ s. string_bytes s ≡ later_spans (gates_of course.now) from) }
+// The texts of the positions from one to another, one after the other.
+fn each_position<F: Fn(usize) -> Result<String, AllocError>>(
+    heap: Global,
+    from: usize,
+    to: usize,
+    text: F,
+) -> Result<String, AllocError>
+    requires has_a_text { (p : ℕ) → from ≤ p → p ≤ to → F.pre text p }
+    ensures texts { (words : ℕ → List ℕ) → ((p : ℕ) (r : _) → from ≤ p → p ≤ to → F.post text p r → IfOk r (λ s. string_bytes s ≡ words p)) → IfOk result (λ s. string_bytes s ≡ each_text words (span from to)) }
 {
-    let mut text = String::new(heap);
-    for first in from..course.count() + 1 {
-        let lines = spans_from(heap, course, first)?;
-        text.push_str(lines.as_str())?;
+    let mut all = String::new(heap);
+    for position in from..=to {
+        let words = text(position)?;
+        all.push_str(words.as_str())?;
     }
-    Ok(text)
+    Ok(all)
 }
