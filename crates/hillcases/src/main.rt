@@ -8,22 +8,19 @@ mod tables;
 
 fn main(rt: HostRuntime) -> anyhow::Result<()> {
     let heap = rt.alloc();
-    rt.println("H")?;
-    rt.print(spans_text(heap, &hill_h())?)?;
-    rt.println("V")?;
-    rt.print(spans_text(heap, &hill_v())?)?;
-    rt.println("edits of H")?;
-    for edit in tables::OF_H {
-        rt.print(edit_text(heap, &hill_h(), edit)?)?;
+    for (title, course) in [("H", hill_h()), ("V", hill_v())] {
+        rt.println(title)?;
+        rt.print(spans_text(heap, &course)?)?;
     }
-    rt.println("edits of no gates")?;
-    for edit in tables::OF_NO_GATES {
-        rt.print(edit_text(heap, &Course::new(), edit)?)?;
-    }
-    rt.println("edits of 200 gates")?;
-    let full = full_course();
-    for edit in tables::OF_200_GATES {
-        rt.print(edit_text(heap, &full, edit)?)?;
+    for (title, course, edits) in [
+        ("edits of H", hill_h(), &tables::OF_H[..]),
+        ("edits of no gates", Course::new(), &tables::OF_NO_GATES[..]),
+        ("edits of 200 gates", full_course(), &tables::OF_200_GATES[..]),
+    ] {
+        rt.println(title)?;
+        for edit in edits {
+            rt.print(edit_text(heap, &course, *edit)?)?;
+        }
     }
     Ok(())
 }
