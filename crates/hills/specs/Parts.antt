@@ -8,11 +8,6 @@ unfoldable pub added_all : List Gate → List Gate → List Gate
 added_all gs [] = gs
 added_all gs (x ∷ xs) = added_all (after_add gs x) xs
 
--- words, and a space after each
-abbrev pub spaced : List (List ℕ) → List ℕ
-spaced [] = []
-spaced (w ∷ ws) = w ++ (codes " " ++ spaced ws)
-
 -- the number of a gate, after a space
 abbrev pub number_text : Gate → List ℕ
 number_text g = codes " " ++ decimal g.number

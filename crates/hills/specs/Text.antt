@@ -10,9 +10,8 @@ use Rattle.costs.specs.Groups.{span}
 use Rattle.kinds.specs.FreeMast.{free_mast_span, free_mast_mast}
 use Rattle.kinds.specs.GateMast.{gate_mast_span, gate_mast_mast}
 use Rattle.kinds.specs.Trench.{trench_span}
-use Rattle.steps.specs.declared.step.Step.{Step}
-use Rattle.steps.specs.declared.step.Step.TheVariants.{At, Beyond}
 use Rattle.steps.specs.Steps.{step_of}
+use Rattle.steps.specs.Texts.{step_words}
 use Rattle.hills.specs.declared.edits.Edit.{Edit}
 use Rattle.hills.specs.declared.edits.Edit.TheVariants.{Add, Remove, Relocate}
 
@@ -51,14 +50,9 @@ trench_line gs first last = span_line (codes "TRENCH") first last (decimal (tren
 abbrev pub step_limits : List ℕ
 step_limits = 300000 ∷ 1000000 ∷ []
 
--- a step: s and its number, or b and the cost that is beyond every limit
-abbrev pub step_word : Step → List ℕ
-step_word (At n) = codes "s" ++ decimal n
-step_word (Beyond n) = codes "b" ++ decimal n
-
 -- with a mast at any place, the cost as a step
 abbrev pub step_line : List Gate → ℕ → ℕ → List ℕ
-step_line gs first last = mast_line (codes "STEP") first last (step_word (step_of step_limits (free_mast_span gs first last))) (free_mast_mast gs first last)
+step_line gs first last = mast_line (codes "STEP") first last (step_words (step_of step_limits (free_mast_span gs first last))) (free_mast_mast gs first last)
 
 -- the four lines of a span
 abbrev pub span_text : List Gate → ℕ → ℕ → List ℕ

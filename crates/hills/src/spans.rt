@@ -1,47 +1,23 @@
 // What every span of a course costs, as text.
-ghost use Rattle.std.specs.Prelude.{◌≡◌, ℕ, ◌≤◌, List, true, IfOk, string_bytes, decimal};
+ghost use Rattle.std.specs.Prelude.{◌≡◌, ℕ, ◌≤◌, List, true, Some, IfOk, string_bytes};
 ghost use Rattle.course.specs.View.{gates_of};
 ghost use Rattle.costs.specs.Groups.{is_span, span};
 ghost use Rattle.steps.specs.View.{limits_of};
-ghost use Rattle.hills.specs.Text.{mast_line, trench_line, step_word, step_limits, step_line, span_text, each_text, spans_from, spans_text};
+ghost use Rattle.hills.specs.Text.{mast_line, step_limits, span_text, each_text, spans_from, spans_text};
 
-use costs::{Cost, Mast, Masted, Whole};
+use costs::{Cost, Masted, Span};
 use course::Course;
 use kinds::{FreeMast, GateMast, Trench};
 use std::alloc::{AllocError, Global};
-use steps::{Limits, Step, Steps};
+use std::fmt::Display;
+use steps::{Limits, Steps};
 
 // What every span of a course costs: four lines for each, by their first positions and then by their last.
 pub fn spans_text(heap: Global, course: &Course) -> Result<String, AllocError>
     ensures four_lines_for_each_span { IfOk result (λ s. string_bytes s ≡ spans_text (gates_of course.now)) }
 {
-    each_position(heap, 1, course.count(), |first| spans_from(heap, course, first))
-}
-
-// The line of a span's cost and its mast.
-fn mast_line(
-    heap: Global,
-    kind: &str,
-    first: usize,
-    last: usize,
-    cost: &str,
-    mast: Mast,
-) -> Result<String, AllocError>
-    ensures text { IfOk result (λ s. string_bytes s ≡ mast_line kind.now first last cost.now mast) }
-{
-    let distance = mast.distance;
-    let height = mast.height;
-    format!(in heap; "{kind} {first}-{last} {cost} {distance} {height}\n")
-}
-
-// A step in a line.
-fn step_word(heap: Global, step: Step) -> Result<String, AllocError>
-    ensures text { IfOk result (λ s. string_bytes s ≡ step_word step) }
-{
-    match step {
-        Step::At(number) => format!(in heap; "s{number}"),
-        Step::Beyond(cost) => format!(in heap; "b{cost}"),
-    }
+    let count = course.count();
+    each_position(heap, 1, count, |first| spans_from(heap, course, first))
 }
 
 // The kind of the lines of steps.
@@ -54,60 +30,31 @@ fn free_mast_steps() -> Steps<FreeMast>
     }
 }
 
-// The line of a span under a kind with whole numbers and masts.
-fn whole_line<C: Whole + Masted>(
+// The line of a span's cost and its mast under a kind.
+fn masted_line<C: Masted>(
     heap: Global,
-    kind: &C,
     name: &str,
-    course: &Course,
-    first: usize,
-    last: usize,
+    kind: &C,
+    span: &Span,
 ) -> Result<String, AllocError>
-    requires a_span { is_span (gates_of course.now) first last ≡ true }
-    ensures text { IfOk result (λ s. string_bytes s ≡ mast_line name.now first last (decimal (C.Cost.span_cost kind.now (gates_of course.now) first last)) (C.Masted.mast_of kind.now (gates_of course.now) first last)) }
+where
+    C::Value: Display,
+    ensures text { (word : List ℕ) → C.Value.output (C.Cost.span_cost kind.now span.now.gates.now span.now.first span.now.last) ≡ Some word → IfOk result (λ s. string_bytes s ≡ mast_line name.now span.now.first span.now.last word (C.Masted.mast_of kind.now span.now.gates.now span.now.first span.now.last)) }
 {
-    let cost = kind.span(course, first, last).unwrap();
-    let mast = kind.mast(course, first, last).unwrap();
-    let word = format!(in heap; "{cost}")?;
-    mast_line(heap, name, first, last, word.as_str(), mast)
-}
-
-// The line of a span with a trench.
-fn trench_line(
-    heap: Global,
-    course: &Course,
-    first: usize,
-    last: usize,
-) -> Result<String, AllocError>
-    requires a_span { is_span (gates_of course.now) first last ≡ true }
-    ensures text { IfOk result (λ s. string_bytes s ≡ trench_line (gates_of course.now) first last) }
-{
-    let cost = Trench.span(course, first, last).unwrap();
-    format!(in heap; "TRENCH {first}-{last} {cost}\n")
-}
-
-// The line of a span with a mast at any place, the cost as a step.
-fn step_line(heap: Global, course: &Course, first: usize, last: usize) -> Result<String, AllocError>
-    requires a_span { is_span (gates_of course.now) first last ≡ true }
-    ensures text { IfOk result (λ s. string_bytes s ≡ step_line (gates_of course.now) first last) }
-{
-    let kind = free_mast_steps();
-    let step = kind.span(course, first, last).unwrap();
-    let mast = kind.mast(course, first, last).unwrap();
-    let word = step_word(heap, step)?;
-    mast_line(heap, "STEP", first, last, word.as_str(), mast)
+    let cost = kind.span_cost(span);
+    let mast = kind.span_mast(span);
+    format!(in heap; "{name} {span} {cost} {mast}\n")
 }
 
 // The four lines of a span.
-fn span_text(heap: Global, course: &Course, first: usize, last: usize) -> Result<String, AllocError>
-    requires a_span { is_span (gates_of course.now) first last ≡ true }
-    ensures text { IfOk result (λ s. string_bytes s ≡ span_text (gates_of course.now) first last) }
+fn span_text(heap: Global, span: &Span) -> Result<String, AllocError>
+    ensures text { IfOk result (λ s. string_bytes s ≡ span_text span.now.gates.now span.now.first span.now.last) }
 {
-    let gate = whole_line(heap, &GateMast, "GATE", course, first, last)?;
-    let free = whole_line(heap, &FreeMast, "FREE", course, first, last)?;
-    let trench = trench_line(heap, course, first, last)?;
-    let step = step_line(heap, course, first, last)?;
-    format!(in heap; "{gate}{free}{trench}{step}")
+    let gate = masted_line(heap, "GATE", &GateMast, span)?;
+    let free = masted_line(heap, "FREE", &FreeMast, span)?;
+    let trench = Trench.span_cost(span);
+    let step = masted_line(heap, "STEP", &free_mast_steps(), span)?;
+    format!(in heap; "{gate}{free}TRENCH {span} {trench}\n{step}")
 }
 
 // The spans from a position on, by their last positions.
@@ -115,7 +62,9 @@ fn spans_from(heap: Global, course: &Course, first: usize) -> Result<String, All
     requires counted { 1 ≤ first }
     ensures text { IfOk result (λ s. string_bytes s ≡ spans_from (gates_of course.now) first) }
 {
-    each_position(heap, first, course.count(), |last| span_text(heap, course, first, last))
+    each_position(heap, first, course.count(), |last| {
+        span_text(heap, &Span::of(course, first, last).unwrap())
+    })
 }
 
 // The texts of the positions from one to another, one after the other.

@@ -1,7 +1,8 @@
-use Rattle.hills.proofs.Texts.{edit_line_parts}
+use Rattle.hills.proofs.Texts.{done_line, refusal_line}
 use Rattle.hills.proofs.edits.edit_line.Goals as goal
 
+pub returns-in-Ok : goal.returns-in-Ok
+returns-in-Ok c = record { text = rw (c.in-Ok.is, done_line c.args.edit c.args.gates.now, ← c.in_ok-numbers.ensures.text) c.format.ensures.ok }
+
 pub returns : goal.returns
-returns c =
-    let parts = edit_line_parts c.args.edit c.args.answer c.args.gates.now in
-    record { text = rw (parts, ← c.in_ok-edited.ensures.text, ← c.in_ok-answered.ensures.text, ← c.in_ok-numbers.ensures.text) c.format.ensures.ok }
+returns c = record { text = rw (c.in-Err.is, refusal_line c.args.edit c.in-Err.refusal c.args.gates.now, ← c.in_ok-numbers.ensures.text) c.format-in-Err.ensures.ok }

@@ -1,4 +1,4 @@
-use Rattle.std.proofs.Common.{◌≡◌, ◌++◌, IfOk, string_bytes, ap, ◌∙◌, arith}
+use Rattle.std.proofs.Common.{◌≡◌, ◌++◌, string_bytes, ap, ◌∙◌, arith}
 use Rattle.costs.specs.Groups.{span}
 use Rattle.hills.specs.Text.{each_text}
 use Rattle.hills.proofs.Texts.{along_more, along_all}
@@ -15,16 +15,21 @@ pub loop-position-preserved : goal.loop-position-preserved
 loop-position-preserved g c = λ words h.
     let told = h c.loop-position.position c.text.result (omega arith) (omega arith) c.text.ensures in
     let line : string_bytes c.in_ok-words.words ≡ words c.loop-position.position = rw c.in_ok-words.was at told in
-    along_more (c.loop-position.invariant words h) _ _ (omega arith) (c.as_str.ensures.value ∙ line) c.in_ok-push_str.was c.push_str.ensures.bytes
+    let added : c.as_str.result.now ≡ words c.loop-position.position = c.as_str.ensures.value ∙ line in
+    let more = rw added at c.in_ok-push_str.ensures.bytes in
+    along_more (c.loop-position.invariant words h) _ (omega arith) more
 
 pub returns : goal.returns
-returns g c = record { texts = λ words h.
-    let so_far = c.loop-position.invariant words h in
-    elim c.loop-position-test.branch [
-      else-loop-position-test w ↦ rw w.all-is (along_all so_far (omega arith))
-    | then-loop-position-test+in_ok-words+in_ok-push_str+else-position-to w ↦
-        let told = h c.loop-position.position w.text.result (omega arith) (omega arith) w.text.ensures in
-        let line : string_bytes w.in_ok-words.words ≡ words c.loop-position.position = rw w.in_ok-words.was at told in
-        let more = along_more so_far _ _ (omega arith) (w.as_str.ensures.value ∙ line) w.in_ok-push_str.was w.push_str.ensures.bytes in
-        rw w.all-is (along_all more (omega arith))
-    ] }
+returns g c = record {
+  texts = λ words h.
+      let so_far = c.loop-position.invariant words h in
+      elim c.loop-position-test.branch [
+        | else-loop-position-test w ↦ rw w.all-is (along_all so_far (omega arith))
+        | then-loop-position-test+in_ok-words+in_ok-push_str+else-position-to w ↦
+            let told = h c.loop-position.position w.text.result (omega arith) (omega arith) w.text.ensures in
+            let line : string_bytes w.in_ok-words.words ≡ words c.loop-position.position = rw w.in_ok-words.was at told in
+            let added : w.as_str.result.now ≡ words c.loop-position.position = w.as_str.ensures.value ∙ line in
+            let more = rw added at w.in_ok-push_str.ensures.bytes in
+            rw w.all-is (along_all (along_more so_far _ (omega arith) more) (omega arith))
+      ];
+}
