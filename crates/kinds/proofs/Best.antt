@@ -1,21 +1,17 @@
 -- Where the best gate of a span stands: where the farther end changes, or one above. Assumes nothing.
-use Rattle.std.proofs.Common.{◌≡◌, ℕ, ◌-◌, ◌*◌, ◌<◌, ◌≤◌, max, Bool, true, false, cond, ◌&&◌, ltb, leb, List, length, refl, ap, ◌∙◌, ⊎_elim, arith, ltb-false, ltb-true, leb-false, leb-true}
+use Rattle.std.proofs.Common.{◌≡◌, ℕ, ◌-◌, ◌*◌, ◌<◌, ◌≤◌, max, List, length, ⊎_elim, arith, leb-false, leb-true}
 use Rattle.std.proofs.lemmas.Bool.Decides.{leb_tells}
 use Rattle.course.specs.declared.gate.Gate.{Gate}
 use Rattle.course.specs.Gates.{IsCourse, gate_at}
 use Rattle.course.proofs.Squares.{apart_sym}
+use Rattle.costs.specs.declared.span.Span.{Span}
+use Rattle.costs.proofs.Spans.{within}
 use Rattle.kinds.specs.GateMast.{between, gate_mast_span, gate_mast_at, TopmostBest}
-use Rattle.kinds.specs.Parts.{FirstFarther, better_at}
+use Rattle.kinds.specs.Parts.{FirstFarther}
 use Rattle.kinds.specs.Farthest.{far_in, between_within, between_falls, to_an_end, span-farthest}
 use Rattle.kinds.specs.Least.{FirstBest, span_there, span_best, best_unique}
 
--- what a choice by two tests gives
-on_both : (a b : Bool) (P : ℕ → Type 0) (x y : ℕ) → (a ≡ true → b ≡ true → P x) → (a ≡ false → P y) → (b ≡ false → P y) → P (cond (a && b) x y)
-on_both true true P x y f g h = f refl refl
-on_both true false P x y f g h = h refl
-on_both false b P x y f g h = g refl
-
-module _ (gs : List Gate) (k : IsCourse gs) (i j : ℕ) (h : 1 ≤ i) (m : j ≤ length gs) where
+module _ (gs : List Gate) (k : IsCourse gs) (i j : ℕ) (h : 1 ≤ i) (o : i ≤ j) (m : j ≤ length gs) where
   -- the squared distance to the farther end
   abbrev to_end : ℕ → ℕ
   to_end y = max (between gs i y) (between gs y j)
@@ -42,8 +38,8 @@ module _ (gs : List Gate) (k : IsCourse gs) (i j : ℕ) (h : 1 ≤ i) (m : j ≤
       }
 
   above_first_farther : (t : ℕ) → FirstFarther gs i j t → i < t → between gs (t - 1) j ≤ between gs i t → FirstBest to_end i j (t - 1)
-  above_first_farther t u o l =
-      let d = leb-false (between gs (t - 1) j) (between gs i (t - 1)) (u.not_before o) in
+  above_first_farther t u n l =
+      let d = leb-false (between gs (t - 1) j) (between gs i (t - 1)) (u.not_before n) in
       record {
         from_first = omega arith;
         to_last = omega arith;
@@ -54,37 +50,29 @@ module _ (gs : List Gate) (k : IsCourse gs) (i j : ℕ) (h : 1 ≤ i) (m : j ≤
         first = λ z a b. let e = between_falls gs k z (t - 1) j (omega arith) b (omega arith) m in omega arith;
       }
 
-  better_best : (t : ℕ) → FirstFarther gs i j t → FirstBest to_end i j (better_at gs i j t)
-  better_best t u =
-      on_both (ltb i t) (leb (between gs (t - 1) j) (between gs i t)) (FirstBest to_end i j) (t - 1) t
-      (λ a b. above_first_farther t u (ltb-true i t a) (leb-true _ _ b))
-      (λ a. at_first_farther t u (λ o. let n = ltb-false i t a in absurd (omega arith)))
-      (λ b. at_first_farther t u (λ _. leb-false _ _ b))
-
-  -- as far as the farthest gate of the span
-  far_best : (y : ℕ) → FirstBest to_end i j y → FirstBest (far_in gs i j) i j y
-  far_best y b =
-      let e = span-farthest gs k i j y h b.from_first b.to_last m in
+  -- the mast's gate is the first at which the farther end is nearest
+  mast_best : FirstBest to_end i j (gate_mast_at gs i j)
+  mast_best =
+      let b = span_best (far_in gs i j) i j o in
+      let e = span-farthest gs k i j (gate_mast_at gs i j) h b.from_first b.to_last m in
       record {
         from_first = b.from_first;
         to_last = b.to_last;
         best = λ z c d. let f = span-farthest gs k i j z h c d m in let g = b.best z c d in omega arith;
-        first = λ z c d. let o = b.to_last in let f = span-farthest gs k i j z h c (omega arith) m in let g = b.first z c d in omega arith;
+        first = λ z c d. let l = b.to_last in let f = span-farthest gs k i j z h c (omega arith) m in let g = b.first z c d in omega arith;
       }
 
-  at_best : (y : ℕ) → FirstBest to_end i j y → y ≡ gate_mast_at gs i j
-  at_best y b =
-      let l = b.from_first in
-      let n = b.to_last in
-      best_unique (far_in gs i j) i j y (gate_mast_at gs i j) (far_best y b) (span_best (far_in gs i j) i j (omega arith))
+  pub mast_above : (t : ℕ) → FirstFarther gs i j t → i < t → between gs (t - 1) j ≤ between gs i t → t - 1 ≡ gate_mast_at gs i j
+  mast_above t u l n = best_unique to_end i j (t - 1) (gate_mast_at gs i j) (above_first_farther t u l n) mast_best
 
-  cost_best : (y : ℕ) → FirstBest to_end i j y → 4 * to_end y ≡ gate_mast_span gs i j
-  cost_best y b =
-      let l = b.from_first in
-      let n = b.to_last in
-      let t = span_there (far_in gs i j) i j (omega arith) in
-      let a = ap (far_in gs i j) (at_best y b) in
-      let e = span-farthest gs k i j y h l n m in
+  pub mast_there : (t : ℕ) → FirstFarther gs i j t → (i < t → between gs i t < between gs (t - 1) j) → t ≡ gate_mast_at gs i j
+  mast_there t u n = best_unique to_end i j t (gate_mast_at gs i j) (at_first_farther t u n) mast_best
+
+  pub mast_cost : 4 * to_end (gate_mast_at gs i j) ≡ gate_mast_span gs i j
+  mast_cost =
+      let t = span_there (far_in gs i j) i j o in
+      let b = mast_best in
+      let e = span-farthest gs k i j (gate_mast_at gs i j) h b.from_first b.to_last m in
       omega arith
 
   -- a gate of the span as far as the farther end
@@ -95,17 +83,25 @@ module _ (gs : List Gate) (k : IsCourse gs) (i j : ℕ) (h : 1 ≤ i) (m : j ≤
       (λ l. (j, omega arith, omega arith, omega arith))
       (leb_tells (between gs z j) (between gs i z))
 
-  topmost_best : (y : ℕ) → FirstBest to_end i j y → TopmostBest gs i j (4 * to_end y) y
-  topmost_best y b = record {
-    from_first = b.from_first;
-    to_last = b.to_last;
-    reaches = λ p c d. let e = to_an_end gs k i j y p h b.from_first b.to_last c d m in omega arith;
-    none_better = λ z c d. let f = far_end z c d in let e = b.best z c d in (f.0, f.1, f.2, omega arith);
-    none_above = λ z c d. let o = b.to_last in let f = far_end z c (omega arith) in let e = b.first z c d in (f.0, f.1, f.2, omega arith);
-  }
+  pub mast_topmost : TopmostBest gs i j (gate_mast_span gs i j) (gate_mast_at gs i j)
+  mast_topmost =
+      let b = mast_best in
+      let told = mast_cost in
+      record {
+        from_first = b.from_first;
+        to_last = b.to_last;
+        reaches = λ p c d. let e = to_an_end gs k i j (gate_mast_at gs i j) p h b.from_first b.to_last c d m in omega arith;
+        none_better = λ z c d. let f = far_end z c d in let e = b.best z c d in (f.0, f.1, f.2, omega arith);
+        none_above = λ z c d. let l = b.to_last in let f = far_end z c (omega arith) in let e = b.first z c d in (f.0, f.1, f.2, omega arith);
+      }
 
-  -- the better of that gate and the one above it is the best, and this is its cost
-  pub told_best : (t y cost : ℕ) → FirstFarther gs i j t → y ≡ better_at gs i j t → cost ≡ 4 * to_end y → (cost ≡ gate_mast_span gs i j) × (y ≡ gate_mast_at gs i j) × TopmostBest gs i j cost y
-  told_best t y cost u e f =
-      let b = rw (← e) at (better_best t u) in
-      (f ∙ cost_best y b, at_best y b, rw f (topmost_best y b))
+-- and so in a span
+module _ (s : Span) where
+  pub best_above : (t : ℕ) → FirstFarther s.gates.now s.first s.last t → s.first < t → between s.gates.now (t - 1) s.last ≤ between s.gates.now s.first t → t - 1 ≡ gate_mast_at s.gates.now s.first s.last
+  best_above = let v = within s.gates.now s.first s.last s.a_span in mast_above s.gates.now s.a_course s.first s.last v.counted v.in_order v.inside
+
+  pub best_there : (t : ℕ) → FirstFarther s.gates.now s.first s.last t → (s.first < t → between s.gates.now s.first t < between s.gates.now (t - 1) s.last) → t ≡ gate_mast_at s.gates.now s.first s.last
+  best_there = let v = within s.gates.now s.first s.last s.a_span in mast_there s.gates.now s.a_course s.first s.last v.counted v.in_order v.inside
+
+  pub best_cost : (y : ℕ) → y ≡ gate_mast_at s.gates.now s.first s.last → 4 * max (between s.gates.now s.first y) (between s.gates.now y s.last) ≡ gate_mast_span s.gates.now s.first s.last
+  best_cost y e = let v = within s.gates.now s.first s.last s.a_span in rw e (mast_cost s.gates.now s.a_course s.first s.last v.counted v.in_order v.inside)

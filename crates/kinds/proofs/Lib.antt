@@ -1,3 +1,5 @@
 pub mod Best
+pub mod Groups
+pub mod Nearer
 pub mod Places
 pub mod Reaches

@@ -1,14 +1,18 @@
 -- What a mast at a gate reaches. Assumes nothing.
-use Rattle.std.proofs.Common.{◌≡◌, ℕ, ◌*◌, ◌^◌, ◌<◌, ◌≤◌, Bool, true, false, cond, leb, List, ℤ, pos, ◌-ℤ◌, ◌*ℤ◌, nat_abs, Some, None, Option, refl, ap, ◌∙◌, true≢false, arith, le-leb}
+use Rattle.std.proofs.Common.{◌≡◌, ℕ, ◌*◌, ◌^◌, ◌<◌, ◌≤◌, leb, length, ℤ, pos, ◌-ℤ◌, ◌*ℤ◌, nat_abs, arith, le-leb}
 use Rattle.std.proofs.lemmas.Int.{ints}
 use Rattle.course.specs.declared.gate.Gate.{Gate}
 use Rattle.course.specs.Gates.{gate_at}
 use Rattle.course.specs.Distances.{square, apart}
 use Rattle.course.proofs.Squares.{apart_sym}
+use Rattle.costs.specs.declared.span.Span.{Span}
 use Rattle.costs.specs.declared.mast.Mast.{Mast}
-use Rattle.costs.specs.Groups.{is_span, of_span}
-use Rattle.costs.specs.Masts.{reach, Reached, ReachesAll}
-use Rattle.kinds.specs.GateMast.{gate_mast_span, gate_mast_at, gate_mast_best, doubled, gate_mast_mast, TopmostBest}
+use Rattle.costs.proofs.Spans.{within, span_group}
+use Rattle.costs.specs.Groups.{span}
+use Rattle.costs.specs.Masts.{reach, Reached}
+use Rattle.kinds.specs.GateMastLaws.{groups_below}
+use Rattle.kinds.proofs.Best.{mast_topmost}
+use Rattle.kinds.specs.GateMast.{gate_mast_span, gate_mast_at, doubled, gate_mast_mast}
 
 doubled-square : (a b : ℤ) → square (pos 2 *ℤ a -ℤ pos 2 *ℤ b) ≡ 4 * square (a -ℤ b)
 doubled-square a b =
@@ -27,20 +31,10 @@ reached y g cost s l =
     let e = reach-doubled y g in
     record { fits = omega arith; affordable = le-leb _ _ (omega arith) }
 
--- what is told is what the choice has
-chosen : {A : Type 0} (b : Bool) (x y : A) → Some x ≡ cond b (Some y) None → (b ≡ true) × (x ≡ y)
-chosen true x y e = (refl, cc)
-chosen false x y e = let z : true ≡ false = cc in absurd (true≢false z)
-
--- where a cost and a position are told, and the mast stands at that gate
-module _ (gs : List Gate) (first last cost y : ℕ) (told : ◌≡◌ {A = Option (ℕ × ℕ)} (Some (cost, y)) (of_span gs first last (gate_mast_best gs first last))) (m : Mast) (at : m ≡ doubled (gate_at gs y)) where
-  told_parts : (is_span gs first last ≡ true) × (cost ≡ gate_mast_span gs first last) × (y ≡ gate_mast_at gs first last)
-  told_parts =
-      let c = chosen (is_span gs first last) (cost, y) (gate_mast_best gs first last) told in
-      (c.0, ap (λ (p : ℕ × ℕ). p.0) c.1, ap (λ (p : ℕ × ℕ). p.1) c.1)
-
-  pub mast_told : Some m ≡ of_span gs first last (gate_mast_mast gs first last)
-  mast_told = let w = told_parts.0 in let e = at ∙ ap (λ p. doubled (gate_at gs p)) told_parts.2 in rw (w, e)
-
-  pub mast_reaches : cost < 2 ^ 43 → TopmostBest gs first last cost y → ReachesAll leb (λ n. n) (gate_mast_span gs first last) gs first last (Some m)
-  mast_reaches s t p a b = rw (at, ← told_parts.1) (reached (gate_at gs y) (gate_at gs p) cost s (t.reaches p a b))
+-- every gate of a span is reached from the mast at its best gate
+pub best_reaches : (s : Span) (m : Mast) (p : ℕ) → m ≡ gate_mast_mast s.gates.now s.first s.last → s.first ≤ p → p ≤ s.last → Reached leb (λ n. n) (gate_mast_span s.gates.now s.first s.last) (reach m (gate_at s.gates.now p))
+best_reaches s m p e h l =
+    let v = within s.gates.now s.first s.last s.a_span in
+    let t = mast_topmost s.gates.now s.a_course s.first s.last v.counted v.in_order v.inside in
+    let small = groups_below s.gates.now s.a_course (span s.first s.last) (span_group (length s.gates.now) s.first s.last v.counted v.in_order v.inside) in
+    rw e (reached (gate_at s.gates.now (gate_mast_at s.gates.now s.first s.last)) (gate_at s.gates.now p) (gate_mast_span s.gates.now s.first s.last) small (t.reaches p h l))

@@ -1,5 +1,5 @@
 -- What private functions answer: where the search for the best gate of a span for its mast ends. Assumes nothing.
-use Rattle.std.specs.Prelude.{◌≡◌, ℕ, ◌-◌, ◌<◌, ◌≤◌, Bool, true, false, cond, ◌&&◌, List, nat_le, nat_lt}
+use Rattle.std.specs.Prelude.{◌≡◌, ℕ, ◌-◌, ◌<◌, ◌≤◌, Bool, true, false, List, nat_le}
 use Rattle.course.specs.declared.gate.Gate.{Gate}
 use Rattle.kinds.specs.GateMast.{between}
 
@@ -13,7 +13,3 @@ pub record FirstFarther (gs : List Gate) (first last y : ℕ) : Type 0 where
   pub to_last : y ≤ last
   pub farther : farther_from_first gs first last y ≡ true
   pub not_before : first < y → farther_from_first gs first last (y - 1) ≡ false
-
--- the better of the gate at y and the one above it: the upper one if both are as good
-abbrev pub better_at : List Gate → ℕ → ℕ → ℕ → ℕ
-better_at gs first last y = cond (nat_lt first y && nat_le (between gs (y - 1) last) (between gs first y)) (y - 1) y

@@ -1,12 +1,13 @@
 // Cost kinds whose values are whole numbers: the gate mast, the free mast and the trench.
 #![tactic(auto)]
 
-ghost use Rattle.std.specs.Prelude.{◌≡◌, ◌^◌, ◌<◌, true, pos, ◌-ℤ◌, unsigned_abs};
-ghost use Rattle.course.specs.Gates.{in_range};
+ghost use Rattle.std.specs.Prelude.{◌≡◌, ◌^◌, ◌<◌, pos, ◌-ℤ◌, unsigned_abs};
 ghost use Rattle.course.specs.Distances.{square, apart};
 
 use course::Gate;
 
+// Each kind writes its own order and reading of whole numbers: an impl for all kinds of a trait of `costs` is refused,
+// and no macro may write a trait's ghost members.
 mod free_mast;
 mod gate_mast;
 mod trench;
@@ -17,36 +18,32 @@ pub use trench::{Trench, trench_cost};
 
 // How much farther from the start one gate is than another.
 fn farther(a: Gate, b: Gate) -> i64
-    requires ranged { (in_range a ≡ true) × (in_range b ≡ true) }
     ensures difference { result ≡ pos a.distance -ℤ pos b.distance }
-    ensures short { unsigned_abs result < 2 ^ 20 }
+    ensures short { unsigned_abs result < 2 ^ 32 }
 {
-    a.distance as i64 - b.distance as i64
+    i64::from(a.distance) - i64::from(b.distance)
 }
 
 // How much higher one gate is than another.
 fn higher(a: Gate, b: Gate) -> i64
-    requires ranged { (in_range a ≡ true) × (in_range b ≡ true) }
     ensures difference { result ≡ a.height -ℤ b.height }
-    ensures short { unsigned_abs result < 2 ^ 20 }
+    ensures short { unsigned_abs result < 2 ^ 32 }
 {
-    a.height as i64 - b.height as i64
+    i64::from(a.height) - i64::from(b.height)
 }
 
 // The square of a difference.
-fn squared(difference: i64) -> u64
-    requires short { unsigned_abs difference < 2 ^ 20 }
+fn squared(difference: i64) -> u128
     ensures product { result ≡ square difference }
-    ensures small { result < 2 ^ 40 }
+    ensures small { result < 2 ^ 127 }
 {
-    (difference * difference) as u64
+    let size = u128::from(difference.unsigned_abs());
+    size * size
 }
 
 // The squared distance of two gates.
-fn distance_squared(a: Gate, b: Gate) -> u64
-    requires ranged { (in_range a ≡ true) × (in_range b ≡ true) }
+fn distance_squared(a: Gate, b: Gate) -> u128
     ensures squared_distance { result ≡ apart a b }
-    ensures small { result < 2 ^ 41 }
 {
     squared(farther(a, b)) + squared(higher(a, b))
 }

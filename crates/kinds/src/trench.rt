@@ -1,15 +1,14 @@
 // A trench from the topmost gate of a group to its lowest.
-ghost use Rattle.std.specs.Prelude.{◌≡◌, ◌^◌, ◌<◌, true, nat_le};
-ghost use Rattle.course.specs.Gates.{in_range};
+ghost use Rattle.std.specs.Prelude.{◌≡◌, ◌^◌, ◌<◌, nat_le};
 ghost use Rattle.course.specs.View.{gates_of};
-ghost use Rattle.costs.specs.Groups.{of_span, is_span, EveryGroup, Told};
+ghost use Rattle.costs.specs.Groups.{of_span, EveryGroup, Told};
 ghost use Rattle.kinds.specs.Trench.{trench, trench_span, trench_group};
 ghost use Rattle.kinds.specs.Trenches.{trench_within};
 ghost use Rattle.costs.proofs.Ends.{ends_laws};
 ghost use Rattle.std.proofs.Common.{rules};
 
 use crate::{farther, higher};
-use costs::{Cost, Whole, is_span};
+use costs::{Cost, Span, Whole};
 use course::{Course, Gate};
 
 // The kind: the length of the trench from the topmost gate of a group to its lowest.
@@ -17,15 +16,13 @@ use course::{Course, Gate};
 pub struct Trench;
 
 // The cost of the span from `first` to `last`, and none where this is no span of the course.
+#[tactic(auto, using(crate::proofs::Groups::trench_below))]
 pub fn trench_cost(course: &Course, first: usize, last: usize) -> Option<u64>
     ensures from_end_to_end { result ≡ of_span (gates_of course.now) first last (trench_span (gates_of course.now) first last) }
     ensures below_two_to_43 { Told result (λ c. c < 2 ^ 43) }
     ensures every_group_below_two_to_43 { Told result (λ _. EveryGroup (gates_of course.now) (λ ps. trench_group (gates_of course.now) ps < 2 ^ 43)) }
 {
-    if !is_span(course, first, last) {
-        return None;
-    }
-    Some(span_length(course, first, last))
+    Some(span_length(&Span::of(course, first, last)?))
 }
 
 impl Cost for Trench {
@@ -41,8 +38,8 @@ impl Cost for Trench {
 
     ghost lawful = { ends_laws trench trench_within };
 
-    fn span(&self, course: &Course, first: usize, last: usize) -> Option<u64> {
-        trench_cost(course, first, last)
+    fn span_cost(&self, span: &Span) -> u64 {
+        span_length(span)
     }
 
     fn not_greater(a: u64, b: u64) -> bool {
@@ -60,20 +57,15 @@ impl Whole for Trench {
 
 // The length of a trench from one gate to another.
 fn length_between(upper: Gate, lower: Gate) -> u64
-    requires ranged { (in_range upper ≡ true) × (in_range lower ≡ true) }
     ensures along_and_down { result ≡ trench upper lower }
-    ensures small { result < 2 ^ 21 }
 {
     farther(lower, upper).unsigned_abs() + higher(upper, lower).unsigned_abs()
 }
 
 // The length of the trench of a span.
-fn span_length(course: &Course, first: usize, last: usize) -> u64
-    requires a_span { is_span (gates_of course.now) first last ≡ true }
-    ensures from_end_to_end { result ≡ trench_span (gates_of course.now) first last }
+fn span_length(span: &Span) -> u64
+    ensures from_end_to_end { result ≡ trench_span span.now.gates.now span.now.first span.now.last }
     ensures small { result < 2 ^ 21 }
-    ensures all_small { EveryGroup (gates_of course.now) (λ ps. trench_group (gates_of course.now) ps < 2 ^ 43) }
 {
-    let gates = course.gates();
-    length_between(gates[first - 1], gates[last - 1])
+    length_between(span.top(), span.bottom())
 }
