@@ -1,11 +1,10 @@
 -- What the listing of a stream says, as text. Assumes nothing.
 use Rattle.std.specs.Prelude.{◌≡◌, ℕ, ◌+◌, cond, List, [], ◌∷◌, ◌++◌, length, take, drop, Ok, Err, codes, decimal, Result, nat_lt}
-use Rattle.std.specs.Fmt.{signed_decimal}
 use Rattle.orders.specs.declared.fault.StreamFault.{StreamFault}
 use Rattle.orders.specs.declared.order.Order.{Order}
-use Rattle.orders.specs.declared.order.Order.TheVariants.{Set, Lift, Move, PlanFor, PlanWithin}
 use Rattle.orders.specs.Faults.{stream_fault_number}
 use Rattle.orders.specs.Streams.{parse, count_answer}
+use Rattle.orders.specs.Texts.{order_text}
 use Rattle.orders.specs.Writing.{encode, size_of, size_all}
 
 -- a line: words with a space between, and a newline at the end
@@ -14,17 +13,9 @@ line_of [] = codes "\n"
 line_of (w ∷ []) = w ++ codes "\n"
 line_of (w ∷ v ∷ ws) = w ++ (codes " " ++ line_of (v ∷ ws))
 
--- an order in words, its numbers in decimal
-abbrev pub words_of : Order → List (List ℕ)
-words_of (Set g d h) = codes "set" ∷ decimal g ∷ decimal d ∷ signed_decimal h ∷ []
-words_of (Lift g) = codes "lift" ∷ decimal g ∷ []
-words_of (Move g d h) = codes "move" ∷ decimal g ∷ decimal d ∷ signed_decimal h ∷ []
-words_of (PlanFor k) = codes "plan" ∷ codes "for" ∷ decimal k ∷ []
-words_of (PlanWithin l) = codes "plan" ∷ codes "within" ∷ decimal l ∷ []
-
--- the line of an order that begins at byte `at`
+-- the line of an order that begins at byte `at`: that byte, and the order in words
 abbrev pub order_line : ℕ → Order → List ℕ
-order_line at o = line_of (decimal at ∷ words_of o)
+order_line at o = line_of (decimal at ∷ order_text o ∷ [])
 
 -- the lines of orders, the first of which begins at byte `at`
 abbrev pub order_lines : ℕ → List Order → List ℕ

@@ -20,21 +20,7 @@ pub const LONGEST_STREAM: usize = 4096;
 fn order_line(heap: Global, byte: usize, order: Order) -> Result<String, AllocError>
     ensures text { IfOk result (λ s. string_bytes s ≡ order_line byte order) }
 {
-    match order {
-        Order::Set {
-            gate,
-            distance,
-            height,
-        } => format!(in heap; "{byte} set {gate} {distance} {height}\n"),
-        Order::Lift { gate } => format!(in heap; "{byte} lift {gate}\n"),
-        Order::Move {
-            gate,
-            distance,
-            height,
-        } => format!(in heap; "{byte} move {gate} {distance} {height}\n"),
-        Order::PlanFor { zones } => format!(in heap; "{byte} plan for {zones}\n"),
-        Order::PlanWithin { limit } => format!(in heap; "{byte} plan within {limit}\n"),
-    }
+    format!(in heap; "{byte} {order}\n")
 }
 
 // The last line, of a stream with so many orders or with a fault.
@@ -43,12 +29,12 @@ fn closing_line(heap: Global, count: Result<usize, StreamFault>) -> Result<Strin
 {
     match count {
         Ok(n) => format!(in heap; "{n} orders\n"),
-        Err(fault) => {
-            let index = fault.index;
-            let number = fault.number();
-            let byte = fault.byte;
-            format!(in heap; "{index} orders !{number} {byte}\n")
-        }
+        Err(fault) => format!(in heap;
+            "{} orders !{} {}\n",
+            fault.index,
+            fault.number(),
+            fault.byte
+        ),
     }
 }
 

@@ -4,12 +4,14 @@ use Rattle.std.proofs.Math.Pow.{mod-mod-pow}
 use Rattle.std.proofs.lemmas.Nat.{mod-pow-add, pow-add, shr-shr, field_of}
 use Rattle.std.proofs.lemmas.Int.Digits.{number_lt}
 use Rattle.std.proofs.ByRecursion.{All-take}
-use Rattle.std.proofs.lemmas.List.{length-take-le, take-append-drop, append-nil}
+use Rattle.std.specs.Int.{byte_at, bytes_high_first, to_be_bytes, w64}
+use Rattle.std.proofs.Math.Nat.{zero-add, suc-add}
+use Rattle.std.proofs.lemmas.List.{take_all, length-take-le, take-append-drop, append-nil}
 use Rattle.std.specs.Int.Digits.{AllBelowBase, number_from_digits, number_from_digits_after}
 use Rattle.orders.specs.Bits.{bit_at, field_at}
 use Rattle.orders.specs.Numbers.{cut_from}
 use Rattle.orders.specs.Parts.{bytes_of, digits}
-use Rattle.orders.proofs.Appending.{cuts, total}
+use Rattle.orders.proofs.Appending.{cuts, length_digits, total}
 
 -- byte j of the n bytes of v
 pub byte_of : (n v j : ℕ) (rest : List ℕ) → j < n → get_or (bytes_of n v ++ rest) j 0 ≡ v / 2 ^ (8 * (n - 1 - j)) % 256
@@ -17,6 +19,34 @@ unfolding digits
 byte_of zero v j rest h = absurd (omega arith)
 byte_of (suc n) v zero rest h = ap (λ m. v / 2 ^ (8 * m) % 256) (omega arith)
 byte_of (suc n) v (suc j) rest h = byte_of n v j rest (omega arith) ∙ ap (λ m. v / 2 ^ (8 * m) % 256) (omega arith)
+
+pow_256 : (n : ℕ) → 256 ^ n ≡ 2 ^ (8 * n)
+pow_256 zero = refl
+pow_256 (suc n) =
+    let m : 8 * n + 8 ≡ 8 * suc n = omega arith in
+    pow-suc 256 n ∙ ap (λ p. p * 256) (pow_256 n) ∙ sym (pow-add 2 (8 * n) 8) ∙ ap (λ k. 2 ^ k) m
+
+-- std's big-endian bytes of v, cut to the lowest n
+byte_is : (i v : ℕ) → byte_at i v ≡ v / 2 ^ (8 * i) % 256
+byte_is zero v = ap (λ q. q % 256) (sym (div-one v))
+byte_is (suc i) v = ap (λ p. v / p % 256) (pow_256 (suc i))
+
+high_first : (n v : ℕ) → bytes_high_first n v ≡ bytes_of n v
+unfolding digits
+high_first zero v = refl
+high_first (suc n) v = rw (byte_is n v, high_first n v)
+
+drop-digits : (j n v : ℕ) → drop j (bytes_of (j + n) v) ≡ bytes_of n v
+unfolding digits
+drop-digits zero n v = ap (λ m. bytes_of m v) (zero-add n)
+drop-digits (suc j) n v = rw (suc-add j n) (drop-digits j n v)
+
+pub low_bytes : (n v : ℕ) → n ≤ 8 → take (8 - (8 - n)) (drop (8 - n) (to_be_bytes w64 v)) ≡ bytes_of n v
+low_bytes n v h =
+    let all : (8 - n) + n ≡ 8 = omega arith in
+    let kept : 8 - (8 - n) ≡ n = omega arith in
+    let low : drop (8 - n) (to_be_bytes w64 v) ≡ bytes_of n v = ap (drop (8 - n)) (high_first 8 v ∙ ap (λ m. bytes_of m v) (sym all)) ∙ drop-digits (8 - n) n v in
+    rw (kept, low) (take_all n (bytes_of n v) (omega (arith, length_digits 8 n v)))
 
 -- bit r of the lowest byte
 bit_of_byte : (v r : ℕ) → r < 8 → v % 256 / 2 ^ r % 2 ≡ v / 2 ^ r % 2
@@ -75,12 +105,6 @@ bytes_of_number (x ∷ xs) a u =
     let low = u.0 in
     let head : number_from_digits_after 256 (a * 256 + x) xs / 2 ^ (8 * length xs) % 256 ≡ x = ap (λ q. q % 256) (after_high xs (a * 256 + x) u.1) ∙ omega arith in
     rw (head, bytes_of_number xs (a * 256 + x) u.1)
-
-pow_256 : (n : ℕ) → 256 ^ n ≡ 2 ^ (8 * n)
-pow_256 zero = refl
-pow_256 (suc n) =
-    let m : 8 * n + 8 ≡ 8 * suc n = omega arith in
-    pow-suc 256 n ∙ ap (λ p. p * 256) (pow_256 n) ∙ sym (pow-add 2 (8 * n) 8) ∙ ap (λ k. 2 ^ k) m
 
 -- n bytes at the front are those of some number
 pub front_number : (n : ℕ) (bs : List ℕ) → n ≤ length bs → AllBelowBase 256 bs → (v : ℕ) × (v < 2 ^ (8 * n)) × (bytes_of n v ++ drop n bs ≡ bs)

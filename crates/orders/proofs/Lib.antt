@@ -8,3 +8,4 @@ pub mod WrittenIsRead
 pub mod ReadIsWritten
 pub mod Streams
 pub mod WriterLoops
+pub mod Rooms

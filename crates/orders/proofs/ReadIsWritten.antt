@@ -7,12 +7,12 @@ use Rattle.orders.specs.declared.order.Order.TheVariants.{Set, Lift, Move, PlanF
 use Rattle.orders.specs.Bits.{field_at}
 use Rattle.orders.specs.Numbers.{appended}
 use Rattle.orders.specs.Parts.{bytes_of}
-use Rattle.orders.specs.Reading.{signed, kind_in, gate_in, distance_in, height_in, width_of, whole_bytes, padding_in, order_of, fields_read, with_rest, read}
+use Rattle.orders.specs.Reading.{signed, kind_in, height_in, place_in, width_of, whole_bytes, padding_in, order_of, fields_read, with_rest, read}
 use Rattle.orders.specs.Writing.{encode, fields_of, size_of, twos}
 use Rattle.orders.proofs.Appending.{cuts_whole, total}
 use Rattle.orders.proofs.Bytes.{fields_from, fields_cut, front_number}
 use Rattle.orders.proofs.Fields.{field_small}
-use Rattle.orders.proofs.Fitting.{Fit, Short, encode_number}
+use Rattle.orders.proofs.Fitting.{Fit, FitPlace, Short, encode_number}
 use Rattle.orders.proofs.Reading.{width_some}
 
 -- what holds where an order of kind k is read
@@ -54,22 +54,22 @@ same n v rest o ws size fill small fit e =
     record { bytes = ap (λ l. l ++ rest) (encode_number o fit ∙ ap (λ m. bytes_of m (appended 0 (fields_of o))) size ∙ ap (bytes_of n) number); fit = fit }
 
 -- a set or a move: its fields hold their values, and its height has the bits that were read
-record Place (bs : List ℕ) : Type 0 where
-  fit : (gate_in bs < 2 ^ 8) × (distance_in bs < 2 ^ 20) × Short (height_in bs)
+record PlaceRead (bs : List ℕ) : Type 0 where
+  fit : FitPlace (place_in bs)
   height : twos (height_in bs) ≡ field_at bs 31 20
 
-place : (bs : List ℕ) → Place bs
-place bs = let low = field_small bs 31 20 in record { fit = (field_small bs 3 8, field_small bs 11 20, short_signed _ low); height = twos-signed _ low }
+place_read : (bs : List ℕ) → PlaceRead bs
+place_read bs = let low = field_small bs 31 20 in record { fit = (field_small bs 3 8, field_small bs 11 20, short_signed _ low); height = twos-signed _ low }
 
 -- the order of kind k that the bytes of v name
 same_of : (k v : ℕ) (rest : List ℕ) → k < 5 → v < 2 ^ (8 * whole_bytes (width_of k)) → kind_in (bytes_of (whole_bytes (width_of k)) v ++ rest) ≡ k → padding_in (width_of k) (bytes_of (whole_bytes (width_of k)) v ++ rest) ≡ 0 → Same (order_of k (bytes_of (whole_bytes (width_of k)) v ++ rest)) rest (bytes_of (whole_bytes (width_of k)) v ++ rest)
 same_of zero v rest few small kind pads =
-    let p = place (bytes_of 7 v ++ rest) in
-    same 7 v rest (Set _ _ _) (3 ∷ 8 ∷ 20 ∷ 20 ∷ 5 ∷ []) refl refl small p.fit (rw (kind, pads, p.height))
+    let p = place_read (bytes_of 7 v ++ rest) in
+    same 7 v rest (Set _) (3 ∷ 8 ∷ 20 ∷ 20 ∷ 5 ∷ []) refl refl small p.fit (rw (kind, pads, p.height))
 same_of (suc zero) v rest few small kind pads = same 2 v rest (Lift _) (3 ∷ 8 ∷ 5 ∷ []) refl refl small (field_small _ 3 8) (rw (kind, pads))
 same_of (suc (suc zero)) v rest few small kind pads =
-    let p = place (bytes_of 7 v ++ rest) in
-    same 7 v rest (Move _ _ _) (3 ∷ 8 ∷ 20 ∷ 20 ∷ 5 ∷ []) refl refl small p.fit (rw (kind, pads, p.height))
+    let p = place_read (bytes_of 7 v ++ rest) in
+    same 7 v rest (Move _) (3 ∷ 8 ∷ 20 ∷ 20 ∷ 5 ∷ []) refl refl small p.fit (rw (kind, pads, p.height))
 same_of (suc (suc (suc zero))) v rest few small kind pads = same 2 v rest (PlanFor _) (3 ∷ 6 ∷ 7 ∷ []) refl refl small (field_small _ 3 6) (rw (kind, pads))
 same_of (suc (suc (suc (suc zero)))) v rest few small kind pads = same 6 v rest (PlanWithin _) (3 ∷ 43 ∷ 2 ∷ []) refl refl small (field_small _ 3 43) (rw (kind, pads))
 same_of (suc (suc (suc (suc (suc k))))) v rest few small kind pads = absurd (omega arith)

@@ -4,6 +4,7 @@ use Rattle.std.proofs.lemmas.Nat.{shr-shr}
 use Rattle.std.proofs.lemmas.List.{take_rest, drop-drop}
 use Rattle.std.proofs.lemmas.Bool.Decides.{nat_tests}
 use Rattle.orders.specs.declared.fault.OrderFault.{OrderFault}
+use Rattle.orders.specs.declared.fault.OrderFault.TheVariants.{Kind}
 use Rattle.orders.specs.declared.order.Order.{Order}
 use Rattle.orders.specs.Bits.{bit_at, field_at}
 use Rattle.orders.specs.Parts.{padding_read}
@@ -31,6 +32,10 @@ read_is (b ∷ bs) k some kind = rw kind
 
 pub width_some : (k : ℕ) → 9 ≤ width_of k
 width_some k = grind (arith, nat_tests)
+
+-- a number that no kind has
+pub no_kind : (bs : List ℕ) (x : ℕ) (e : OrderFault) → 0 < length bs → x ≡ kind_in bs → (e ≡ Kind x) × (4 < x) → Err e ≡ read bs
+no_kind bs x e some kind h = let wrong = h.0 in let above = h.1 in rw (read_is bs x some kind, wrong) (grind (arith, nat_tests))
 
 -- the three ways on from the kind
 module _ (bs : List ℕ) (k : ℕ) (some : 0 < length bs) (kind : k ≡ kind_in bs) where

@@ -4,9 +4,10 @@ use Rattle.std.proofs.lemmas.Bool.{cond-true, cond-false, le-ltb, lt-ltb, eq-eqb
 use Rattle.std.proofs.lemmas.List.{drop_at, length-append}
 use Rattle.orders.specs.declared.order.Order.{Order}
 use Rattle.orders.specs.declared.order.Order.TheVariants.{Set, Lift, Move, PlanFor, PlanWithin}
+use Rattle.orders.specs.declared.order.Place.{Place}
 use Rattle.orders.specs.Bits.{field_at}
 use Rattle.orders.specs.Numbers.{appended}
-use Rattle.orders.specs.Reading.{signed, kind_in, gate_in, distance_in, height_in, width_of, whole_bytes, padding_in, order_of, fields_read, read}
+use Rattle.orders.specs.Reading.{signed, kind_in, gate_in, distance_in, place_in, width_of, whole_bytes, padding_in, order_of, fields_read, read}
 use Rattle.orders.specs.Writing.{encode, fields_of, size_of, twos}
 use Rattle.orders.proofs.Appending.{cuts-appended, widths}
 use Rattle.orders.proofs.Bytes.{fields_from, fields_cut}
@@ -41,19 +42,19 @@ module _ (o : Order) (rest : List ℕ) (fit : Fit o) where
       told ∙ ap (λ r. Ok (o, r)) left
 
 -- the fields of a set or a move
-same_place : (make : ℕ → ℕ → ℤ → Order) (bs : List ℕ) (g d : ℕ) (h : ℤ) → Short h → gate_in bs ≡ g → distance_in bs ≡ d → field_at bs 31 20 ≡ twos h → make (gate_in bs) (distance_in bs) (height_in bs) ≡ make g d h
-same_place make bs g d h short gate distance height = rw (gate, distance, height, signed-twos h short)
+same_place : (make : Place → Order) (bs : List ℕ) (p : Place) → Short p.height → gate_in bs ≡ p.gate → distance_in bs ≡ p.distance → field_at bs 31 20 ≡ twos p.height → make (place_in bs) ≡ make p
+same_place make bs p short gate distance height = rw (gate, distance, height, signed-twos p.height short)
 
 pub read-encode : (o : Order) (rest : List ℕ) → Fit o → read (encode o ++ rest) ≡ Ok (o, rest)
-read-encode (Set g d h) rest fit =
-    let e = fields (Set g d h) rest fit in
-    known (Set g d h) rest fit 0 (omega arith) refl (value 0 e) (same_place Set _ g d h fit.2 (value 1 e) (value 2 e) (value 3 e)) (value 4 e)
+read-encode (Set p) rest fit =
+    let e = fields (Set p) rest fit in
+    known (Set p) rest fit 0 (omega arith) refl (value 0 e) (same_place Set _ p fit.2 (value 1 e) (value 2 e) (value 3 e)) (value 4 e)
 read-encode (Lift g) rest fit =
     let e = fields (Lift g) rest fit in
     known (Lift g) rest fit 1 (omega arith) refl (value 0 e) (ap Lift (value 1 e)) (value 2 e)
-read-encode (Move g d h) rest fit =
-    let e = fields (Move g d h) rest fit in
-    known (Move g d h) rest fit 2 (omega arith) refl (value 0 e) (same_place Move _ g d h fit.2 (value 1 e) (value 2 e) (value 3 e)) (value 4 e)
+read-encode (Move p) rest fit =
+    let e = fields (Move p) rest fit in
+    known (Move p) rest fit 2 (omega arith) refl (value 0 e) (same_place Move _ p fit.2 (value 1 e) (value 2 e) (value 3 e)) (value 4 e)
 read-encode (PlanFor k) rest fit =
     let e = fields (PlanFor k) rest fit in
     known (PlanFor k) rest fit 3 (omega arith) refl (value 0 e) (ap PlanFor (value 1 e)) (value 2 e)

@@ -1,3 +1,5 @@
+pub mod Places
+pub mod Kinds
 pub mod Bits
 pub mod Faults
 pub mod Reading
@@ -5,3 +7,4 @@ pub mod Writing
 pub mod Streams
 pub mod Numbers
 pub mod Parts
+pub mod Texts

@@ -4,17 +4,17 @@ use Rattle.orders.specs.declared.fault.BitFault.{BitFault}
 use Rattle.orders.specs.declared.fault.BitFault.TheVariants.{Ends}
 use Rattle.orders.specs.declared.fault.OrderFault.{OrderFault}
 use Rattle.orders.specs.declared.fault.OrderFault.TheVariants.{Padding}
-use Rattle.orders.specs.declared.read.Place.{Place}
+use Rattle.orders.specs.declared.order.Place.{Place}
 use Rattle.orders.specs.Bits.{readable}
-use Rattle.orders.specs.Reading.{gate_in, distance_in, height_in, padding_in}
+use Rattle.orders.specs.Reading.{place_in, padding_in}
 
 -- how many bits are read after the next w bits, if they can be read
 abbrev pub end_after : List ℕ → ℕ → ℕ → Option ℕ
 end_after bs from w = cond (readable bs from w) (Some (from + w)) None
 
--- the fields of a set or a move
+-- what a set or a move says, if the bytes have it
 abbrev pub place_read : List ℕ → Result Place BitFault
-place_read bs = cond (nat_lt (8 * length bs) 51) (Err Ends) (Ok record { gate = gate_in bs; distance = distance_in bs; height = height_in bs })
+place_read bs = cond (nat_lt (8 * length bs) 51) (Err Ends) (Ok (place_in bs))
 
 -- whether the padding after w bits is 0
 abbrev pub padding_read : ℕ → List ℕ → Result (Unit {0}) OrderFault

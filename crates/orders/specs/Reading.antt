@@ -6,7 +6,9 @@ use Rattle.orders.specs.declared.fault.OrderFault.{OrderFault}
 use Rattle.orders.specs.declared.fault.OrderFault.TheVariants.{Bits, Kind, Padding}
 use Rattle.orders.specs.declared.order.Order.{Order}
 use Rattle.orders.specs.declared.order.Order.TheVariants.{Set, Lift, Move, PlanFor, PlanWithin}
+use Rattle.orders.specs.declared.order.Place.{Place}
 use Rattle.orders.specs.Bits.{field_at}
+use Rattle.orders.specs.Places.{place}
 
 -- the integer that 20 bits are in two's complement: n below 2 ^ 19, and n - 2 ^ 20 from there on (`negsuc m` is -(m + 1))
 abbrev pub signed : ℕ → ℤ
@@ -28,6 +30,10 @@ distance_in bs = field_at bs 11 20
 abbrev pub height_in : List ℕ → ℤ
 height_in bs = signed (field_at bs 31 20)
 
+-- what a set or a move says
+abbrev pub place_in : List ℕ → Place
+place_in bs = place (gate_in bs) (distance_in bs) (height_in bs)
+
 -- the zones of a plan for
 abbrev pub zones_in : List ℕ → ℕ
 zones_in bs = field_at bs 3 6
@@ -43,9 +49,9 @@ width_of k = cond (k == 1) 11 (cond (k == 3) 9 (cond (k == 4) 46 51))
 -- the order of kind k, one of 0 to 4
 abbrev pub order_of : ℕ → List ℕ → Order
 order_of k bs =
-    cond (k == 0) (Set (gate_in bs) (distance_in bs) (height_in bs))
+    cond (k == 0) (Set (place_in bs))
     (cond (k == 1) (Lift (gate_in bs))
-    (cond (k == 2) (Move (gate_in bs) (distance_in bs) (height_in bs))
+    (cond (k == 2) (Move (place_in bs))
     (cond (k == 3) (PlanFor (zones_in bs)) (PlanWithin (limit_in bs)))))
 
 -- the order of kind k, whatever its padding, or the fault of its kind or its length

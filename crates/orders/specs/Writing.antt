@@ -1,11 +1,12 @@
 -- The bits and bytes of orders, and what a writer of them answers and leaves. Assumes nothing.
-use Rattle.std.specs.Prelude.{ℕ, zero, suc, ◌+◌, ◌-◌, ◌/◌, ◌%◌, ◌^◌, Bool, true, cond, ◌&&◌, List, [], ◌∷◌, ◌++◌, take, drop, ℤ, pos, negsuc, Ok, Err, Result, int_le, int_lt, nat_le, nat_lt}
+use Rattle.std.specs.Prelude.{ℕ, zero, suc, ◌+◌, ◌-◌, ◌/◌, ◌%◌, ◌^◌, Bool, cond, ◌&&◌, List, [], ◌∷◌, ◌++◌, take, drop, ℤ, pos, negsuc, Ok, Err, Result, int_le, int_lt, nat_le, nat_lt}
 use Rattle.std.specs.Int.Digits.{number_from_digits}
-use Rattle.std.specs.List.{flat_map}
+use Rattle.std.specs.List.{flat_map, list_all}
 use Rattle.orders.specs.declared.fault.WriteFault.{WriteFault}
 use Rattle.orders.specs.declared.fault.WriteFault.TheVariants.{TooWide, TooShort}
 use Rattle.orders.specs.declared.order.Order.{Order}
 use Rattle.orders.specs.declared.order.Order.TheVariants.{Set, Lift, Move, PlanFor, PlanWithin}
+use Rattle.orders.specs.declared.order.Place.{Place}
 
 -- the lowest w bits of a number, the most significant first
 unfoldable pub bits_of : ℕ → ℕ → List ℕ
@@ -27,19 +28,23 @@ abbrev pub twos : ℤ → ℕ
 twos (pos n) = n
 twos (negsuc n) = 2 ^ 20 - 1 - n
 
+-- the fields of a set or a move: the kind, what it says, and zero bits up to a whole byte
+abbrev pub place_fields : ℕ → Place → List (ℕ × ℕ)
+place_fields k p = (3, k) ∷ (8, p.gate) ∷ (20, p.distance) ∷ (20, twos p.height) ∷ (5, 0) ∷ []
+
 -- an order's fields: its kind, what it says, and zero bits up to a whole byte
 abbrev pub fields_of : Order → List (ℕ × ℕ)
-fields_of (Set g d h) = (3, 0) ∷ (8, g) ∷ (20, d) ∷ (20, twos h) ∷ (5, 0) ∷ []
+fields_of (Set p) = place_fields 0 p
 fields_of (Lift g) = (3, 1) ∷ (8, g) ∷ (5, 0) ∷ []
-fields_of (Move g d h) = (3, 2) ∷ (8, g) ∷ (20, d) ∷ (20, twos h) ∷ (5, 0) ∷ []
+fields_of (Move p) = place_fields 2 p
 fields_of (PlanFor k) = (3, 3) ∷ (6, k) ∷ (7, 0) ∷ []
 fields_of (PlanWithin l) = (3, 4) ∷ (43, l) ∷ (2, 0) ∷ []
 
 -- how many bytes an order takes
 abbrev pub size_of : Order → ℕ
-size_of (Set g d h) = 7
+size_of (Set p) = 7
 size_of (Lift g) = 2
-size_of (Move g d h) = 7
+size_of (Move p) = 7
 size_of (PlanFor k) = 2
 size_of (PlanWithin l) = 6
 
@@ -55,18 +60,21 @@ encode_all os = flat_map encode os
 abbrev pub in_twos : ℤ → Bool
 in_twos h = int_le (negsuc (2 ^ 19 - 1)) h && int_lt h (pos (2 ^ 19))
 
+-- each field of a place holds its value
+abbrev pub place_fits : Place → Bool
+place_fits p = nat_lt p.gate (2 ^ 8) && nat_lt p.distance (2 ^ 20) && in_twos p.height
+
 -- each field holds its value
 abbrev pub fits : Order → Bool
-fits (Set g d h) = nat_lt g (2 ^ 8) && nat_lt d (2 ^ 20) && in_twos h
+fits (Set p) = place_fits p
 fits (Lift g) = nat_lt g (2 ^ 8)
-fits (Move g d h) = nat_lt g (2 ^ 8) && nat_lt d (2 ^ 20) && in_twos h
+fits (Move p) = place_fits p
 fits (PlanFor k) = nat_lt k (2 ^ 6)
 fits (PlanWithin l) = nat_lt l (2 ^ 43)
 
 -- so with all orders
 abbrev pub all_fit : List Order → Bool
-all_fit [] = true
-all_fit (o ∷ os) = fits o && all_fit os
+all_fit os = list_all fits os
 
 -- how many bytes orders take
 abbrev pub size_all : List Order → ℕ

@@ -5,14 +5,14 @@ ghost use Rattle.orders.specs.declared.fault.ReadFault.TheVariants.{Stream};
 ghost use Rattle.orders.specs.Faults.{bit_fault_number, order_fault_number, stream_fault_number, read_fault_number, write_fault_number};
 
 // Why a field of bits is not read.
-#[derive(Clone, Copy, Debug, PartialEq)]
+#[derive(Clone, Copy, Debug, PartialEq, Eq)]
 pub enum BitFault {
     // The bytes end before the field does, or a `u64` cannot hold it, or a `usize` cannot count its bits.
     Ends,
 }
 
 // Why bytes do not begin with an order.
-#[derive(Clone, Copy, Debug, PartialEq)]
+#[derive(Clone, Copy, Debug, PartialEq, Eq)]
 pub enum OrderFault {
     // A field is not read.
     Bits(BitFault),
@@ -23,7 +23,7 @@ pub enum OrderFault {
 }
 
 // Where a stream stops being orders, and why: `index` orders are read, and the next begins at `byte`.
-#[derive(Clone, Copy, Debug, PartialEq)]
+#[derive(Clone, Copy, Debug, PartialEq, Eq)]
 pub struct StreamFault {
     pub index: usize,
     pub byte: usize,
@@ -31,7 +31,7 @@ pub struct StreamFault {
 }
 
 // Why a stream is not read into a slice of orders.
-#[derive(Clone, Copy, Debug, PartialEq)]
+#[derive(Clone, Copy, Debug, PartialEq, Eq)]
 pub enum ReadFault {
     // The stream has a fault.
     Stream(StreamFault),
@@ -40,7 +40,7 @@ pub enum ReadFault {
 }
 
 // Why orders are not written.
-#[derive(Clone, Copy, Debug, PartialEq)]
+#[derive(Clone, Copy, Debug, PartialEq, Eq)]
 pub enum WriteFault {
     // A field has too few bits for its value.
     TooWide,

@@ -4,6 +4,7 @@
 pub mod bits;
 pub mod examples;
 pub mod fault;
+mod kind;
 pub mod order;
 pub mod read;
 pub mod stream;

@@ -1,45 +1,14 @@
 // Reads the order at the front of a stream.
 ghost use Rattle.std.specs.Prelude.{◌≡◌, ◌+◌, ◌*◌, ◌^◌, ◌<◌, ◌≤◌, [], ◌∷◌, length, IfOk, OnOk};
-ghost use Rattle.orders.specs.declared.order.Order.TheVariants.{Set, Move};
+ghost use Rattle.orders.specs.Kinds.{code_of};
 ghost use Rattle.orders.specs.Reading.{signed, width_of, fields_read, padding_after, read, plain};
 ghost use Rattle.orders.specs.Parts.{place_read, padding_read};
 ghost use Rattle.orders.specs.Streams.{Fronts};
 
 use crate::bits::BitReader;
 use crate::fault::{BitFault, OrderFault};
-use crate::order::Order;
-
-// What a set and a move say.
-#[derive(Drop)]
-struct Place {
-    gate: u8,
-    distance: u32,
-    height: i32,
-}
-
-impl Place {
-    // The order that sets the gate here.
-    fn to_set(&self) -> Order
-        ensures value { result ≡ Set self.now.gate self.now.distance self.now.height }
-    {
-        Order::Set {
-            gate: self.gate,
-            distance: self.distance,
-            height: self.height,
-        }
-    }
-
-    // The order that moves the gate here.
-    fn to_move(&self) -> Order
-        ensures value { result ≡ Move self.now.gate self.now.distance self.now.height }
-    {
-        Order::Move {
-            gate: self.gate,
-            distance: self.distance,
-            height: self.height,
-        }
-    }
-}
+use crate::kind::Kind;
+use crate::order::{Order, Place};
 
 // A number of 20 bits in two's complement.
 fn sign_extended(bits: u32) -> i32
@@ -71,25 +40,24 @@ fn read_place(reader: &mut BitReader) -> Result<Place, BitFault>
 }
 
 // The order of a kind, from the fields after the kind.
-fn read_fields(reader: &mut BitReader, kind: u8) -> Result<Order, OrderFault>
+fn read_fields(reader: &mut BitReader, kind: Kind) -> Result<Order, OrderFault>
     requires after_kind { reader.old.at ≡ 3 }
     ensures same { reader.new.bytes.now ≡ reader.old.bytes.now }
-    ensures value { result ≡ fields_read kind reader.old.bytes.now }
-    ensures moved { OnOk result ((reader.new.at ≡ width_of kind) × (width_of kind ≤ 8 * length reader.old.bytes.now)) }
+    ensures value { result ≡ fields_read (code_of kind) reader.old.bytes.now }
+    ensures moved { OnOk result ((reader.new.at ≡ width_of (code_of kind)) × (width_of (code_of kind) ≤ 8 * length reader.old.bytes.now)) }
 {
     match kind {
-        0 => Ok(read_place(reader)?.to_set()),
-        1 => Ok(Order::Lift {
+        Kind::Set => Ok(Order::Set(read_place(reader)?)),
+        Kind::Lift => Ok(Order::Lift {
             gate: reader.field(8)? as u8,
         }),
-        2 => Ok(read_place(reader)?.to_move()),
-        3 => Ok(Order::PlanFor {
+        Kind::Move => Ok(Order::Move(read_place(reader)?)),
+        Kind::PlanFor => Ok(Order::PlanFor {
             zones: reader.field(6)? as u8,
         }),
-        4 => Ok(Order::PlanWithin {
+        Kind::PlanWithin => Ok(Order::PlanWithin {
             limit: reader.field(43)?,
         }),
-        _ => Err(OrderFault::Kind(kind)),
     }
 }
 
@@ -116,8 +84,9 @@ pub fn read_order(bytes: &[u8]) -> Result<(Order, &[u8]), OrderFault>
     let [first, rest @ ..] = bytes else {
         return Err(OrderFault::Bits(BitFault::Ends));
     };
+    let kind = Kind::try_from(*first >> 5)?;
     let mut reader = BitReader { bytes, at: 3 };
-    let order = read_fields(&mut reader, *first >> 5)?;
+    let order = read_fields(&mut reader, kind)?;
     read_padding(&mut reader)?;
     Ok((order, &rest[reader.at / 8 - 1..]))
 }

@@ -1,14 +1,36 @@
 // Writes orders as a stream.
 ghost use Rattle.std.specs.Prelude.{◌≡◌, ◌+◌, ◌*◌, ◌^◌, ◌<◌, ◌≤◌, true, ◌&&◌, ◌++◌, length, take, drop, IfOk, nat_le, nat_lt};
-ghost use Rattle.std.proofs.Math.Seq.{paste};
 ghost use Rattle.std.specs.Int.Digits.{number_from_digits};
+ghost use Rattle.orders.specs.Kinds.{code_of};
 ghost use Rattle.orders.specs.Numbers.{appended, number_of};
-ghost use Rattle.orders.specs.Parts.{bytes_of};
 ghost use Rattle.orders.specs.Streams.{parse, WhollyRead};
-ghost use Rattle.orders.specs.Writing.{twos, fields_of, size_of, encode_all, in_twos, fits, all_fit, size_all, write_answer, write_leaves};
+ghost use Rattle.orders.specs.Writing.{twos, fields_of, size_of, encode, encode_all, in_twos, place_fields, place_fits, fits, all_fit, size_all, write_answer, write_leaves};
 
 use crate::fault::WriteFault;
-use crate::order::Order;
+use crate::kind::Kind;
+use crate::order::{Order, Place};
+
+impl Place {
+    // Whether each field holds its value.
+    fn fits(&self) -> bool
+        ensures value { result ≡ place_fits self.now }
+    {
+        number_fits(8, self.gate as u64)
+            && number_fits(20, self.distance as u64)
+            && height_fits(self.height)
+    }
+
+    // The number whose bits are the fields of a set or a move.
+    fn as_number(&self, kind: Kind) -> u64
+        requires fitting { place_fits self.now ≡ true }
+        ensures value { result ≡ appended 0 (place_fields (code_of kind) self.now) }
+    {
+        let front = append(kind.code(), 8, self.gate as u64);
+        let front = append(front, 20, self.distance as u64);
+        let front = append(front, 20, height_bits(self.height));
+        append(front, 5, 0)
+    }
+}
 
 impl Order {
     // Whether each field holds its value.
@@ -16,16 +38,7 @@ impl Order {
         ensures value { result ≡ fits self.now }
     {
         match self {
-            Order::Set {
-                gate,
-                distance,
-                height,
-            }
-            | Order::Move {
-                gate,
-                distance,
-                height,
-            } => place_fits(*gate, *distance, *height),
+            Order::Set(place) | Order::Move(place) => place.fits(),
             Order::Lift { gate } => number_fits(8, *gate as u64),
             Order::PlanFor { zones } => number_fits(6, *zones as u64),
             Order::PlanWithin { limit } => number_fits(43, *limit),
@@ -37,7 +50,7 @@ impl Order {
         ensures value { result ≡ size_of self.now }
     {
         match self {
-            Order::Set { .. } | Order::Move { .. } => 7,
+            Order::Set(_) | Order::Move(_) => 7,
             Order::Lift { .. } | Order::PlanFor { .. } => 2,
             Order::PlanWithin { .. } => 6,
         }
@@ -48,21 +61,22 @@ impl Order {
         requires fitting { fits self.now ≡ true }
         ensures value { result ≡ appended 0 (fields_of self.now) }
     {
-        match *self {
-            Order::Set {
-                gate,
-                distance,
-                height,
-            } => place_number(0, gate, distance, height),
-            Order::Lift { gate } => append(append(1, 8, gate as u64), 5, 0),
-            Order::Move {
-                gate,
-                distance,
-                height,
-            } => place_number(2, gate, distance, height),
-            Order::PlanFor { zones } => append(append(3, 6, zones as u64), 7, 0),
-            Order::PlanWithin { limit } => append(append(4, 43, limit), 2, 0),
+        let kind = self.kind();
+        match self {
+            Order::Set(place) | Order::Move(place) => place.as_number(kind),
+            Order::Lift { gate } => append(append(kind.code(), 8, *gate as u64), 5, 0),
+            Order::PlanFor { zones } => append(append(kind.code(), 6, *zones as u64), 7, 0),
+            Order::PlanWithin { limit } => append(append(kind.code(), 43, *limit), 2, 0),
         }
+    }
+
+    // Writes the order's bytes to a buffer of that size.
+    fn write(&self, out: &mut [u8])
+        requires fitting { fits self.now ≡ true }
+        requires whole { length out.old ≡ size_of self.now }
+        ensures after { out.new ≡ encode self.now }
+    {
+        out.copy_from_slice(&self.as_number().to_be_bytes()[8 - out.len()..]);
     }
 }
 
@@ -79,13 +93,6 @@ fn height_fits(height: i32) -> bool
     ensures value { result ≡ in_twos height }
 {
     height >= -(1 << 19) && height < 1 << 19
-}
-
-// Whether the fields of a set or a move hold their values.
-fn place_fits(gate: u8, distance: u32, height: i32) -> bool
-    ensures value { result ≡ (nat_lt gate (2 ^ 8) && nat_lt distance (2 ^ 20) && in_twos height) }
-{
-    number_fits(8, gate as u64) && number_fits(20, distance as u64) && height_fits(height)
 }
 
 // The 20 bits of a height in two's complement.
@@ -111,55 +118,21 @@ fn append(front: u64, width: u32, value: u64) -> u64
     front << width | value
 }
 
-// The number of a set or a move.
-fn place_number(kind: u64, gate: u8, distance: u32, height: i32) -> u64
-    requires three_bits { kind < 8 }
-    requires twenty_bits { distance < 2 ^ 20 }
-    requires in_range { in_twos height ≡ true }
-    ensures value { result ≡ (((kind * 2 ^ 8 + gate) * 2 ^ 20 + distance) * 2 ^ 20 + twos height) * 2 ^ 5 + 0 }
-{
-    let front = append(kind, 8, gate as u64);
-    let front = append(front, 20, distance as u64);
-    let front = append(front, 20, height_bits(height));
-    append(front, 5, 0)
-}
-
-// Writes the lowest `size` bytes of a number from `at` on, the most significant first.
-fn put(out: &mut [u8], at: usize, size: usize, value: u64)
-    requires within { at + size ≤ length out.old }
-    requires few { size ≤ 8 }
-    ensures after { out.new ≡ paste out.old at (bytes_of size value) size }
-{
-    for i in 0..size {
-        out[at + i] = (value >> (8 * (size - 1 - i)) & 0xff) as u8;
-    }
-}
-
 // Whether each field of each order holds its value.
 fn all_fit(orders: &[Order]) -> bool
     ensures value { result ≡ all_fit orders.now }
 {
-    for order in orders {
-        if !order.fits_fields() {
-            return false;
-        }
-    }
-    true
+    orders.iter().all(|order| order.fits_fields())
 }
 
 // Whether the orders take at most `room` bytes.
 fn have_room(orders: &[Order], room: usize) -> bool
     ensures value { result ≡ nat_le (size_all orders.now) room }
 {
-    let mut left = room;
-    for order in orders {
-        let size = order.size();
-        if size > left {
-            return false;
-        }
-        left -= size;
-    }
-    true
+    orders
+        .iter()
+        .try_fold(room, |left, order| left.checked_sub(order.size()))
+        .is_some()
 }
 
 // Writes orders that fit their fields to the front of a buffer that has room for them.
@@ -171,11 +144,12 @@ fn put_all(orders: &[Order], out: &mut [u8]) -> usize
     ensures back { WhollyRead orders.now (parse (take result out.new)) }
     ensures one_number { number_from_digits 256 (take result out.new) ≡ number_of orders.now }
 {
+    // With `split_at_mut` in place of `at` the proof does not close: nothing is known of `out` after the loop.
     let mut at = 0;
     for order in orders {
-        let size = order.size();
-        put(out, at, size, order.as_number());
-        at += size;
+        let end = at + order.size();
+        order.write(&mut out[at..end]);
+        at = end;
     }
     at
 }
@@ -202,11 +176,11 @@ mod tests {
     use super::*;
 
     const TWO_ORDERS: [Order; 2] = [
-        Order::Set {
+        Order::Set(Place {
             gate: 1,
             distance: 0,
             height: 900,
-        },
+        }),
         Order::PlanFor { zones: 2 },
     ];
 
@@ -234,21 +208,21 @@ mod tests {
     #[test]
     fn refuses_wide_values_before_a_short_buffer(rt: HostRuntime) {
         let wide = [
-            Order::Set {
+            Order::Set(Place {
                 gate: 0,
                 distance: 1_048_576,
                 height: 0,
-            },
-            Order::Set {
+            }),
+            Order::Set(Place {
                 gate: 0,
                 distance: 0,
                 height: 524_288,
-            },
-            Order::Move {
+            }),
+            Order::Move(Place {
                 gate: 0,
                 distance: 0,
                 height: -524_289,
-            },
+            }),
             Order::PlanFor { zones: 64 },
             Order::PlanWithin {
                 limit: 8_796_093_022_208,
