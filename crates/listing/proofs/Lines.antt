@@ -1,38 +1,26 @@
 -- The lines of what is left of a stream. Assumes nothing.
-use Rattle.std.proofs.Common.{◌≡◌, ℕ, ◌+◌, ◌-◌, ◌≤◌, List, [], ◌∷◌, ◌++◌, length, take, drop, Ok, Err, sym, refl, ap, ◌∙◌, arith}
-use Rattle.std.proofs.lemmas.List.{append_assoc, append-nil, drop_at, take_at}
+use Rattle.std.proofs.Common.{◌≡◌, ℕ, ◌+◌, List, [], ◌∷◌, ◌++◌, take, drop, Some, sym, refl, ap, ◌∙◌, arith}
+use Rattle.std.proofs.lemmas.List.{append_assoc, drop_at, take_at}
 use Rattle.std.specs.Int.Digits.{AllBelowBase}
-use Rattle.orders.specs.declared.fault.OrderFault.{OrderFault}
+use Rattle.orders.specs.declared.iter.Orders.{Orders}
 use Rattle.orders.specs.declared.order.Order.{Order}
-use Rattle.orders.specs.Reading.{read}
+use Rattle.orders.specs.Iter.{GivesNext}
 use Rattle.orders.specs.Streams.{parse, count_answer}
 use Rattle.orders.specs.Writing.{encode, encode_all, size_of, size_all}
 use Rattle.orders.proofs.Fitting.{length-encode, length-encode_all}
-use Rattle.orders.proofs.Streams.{parse_more, parse_stops, read_size, splits}
+use Rattle.orders.proofs.Streams.{parse_more, splits}
 use Rattle.listing.specs.Listing.{order_line, order_lines, closing_line, full_listing, EachStands}
 
--- the text so far, with the lines of what is left, is the whole
-pub record Sofar (bs rest text : List ℕ) : Type 0 where
-  pub inside : length rest ≤ length bs
-  pub lines : text ++ order_lines (length bs - length rest) (parse rest).orders ≡ order_lines 0 (parse bs).orders
-
-module _ {bs rest text : List ℕ} (s : Sofar bs rest text) where
-  pub sofar_more : (o : Order) (after line : List ℕ) → Ok (o, after) ≡ read rest → line ≡ order_line (length bs - length rest) o → Sofar bs after (text ++ line)
-  sofar_more o after line e f =
-      let size = read_size rest o after e in
-      let at : (length bs - length rest) + size_of o ≡ length bs - length after = omega (arith, s.inside) in
-      let first : order_lines (length bs - length rest) (parse rest).orders ≡ line ++ order_lines (length bs - length after) (parse after).orders =
-      ap (λ p. order_lines (length bs - length rest) p.orders) (parse_more rest o after e)
-      ∙ ap (λ l. l ++ order_lines ((length bs - length rest) + size_of o) (parse after).orders) (sym f)
-      ∙ ap (λ n. line ++ order_lines n (parse after).orders) at
-      in
-      record {
-        inside = omega (arith, s.inside);
-        lines = append_assoc text line _ ∙ ap (λ l. text ++ l) (sym first) ∙ s.lines;
-      }
-
-  pub sofar_all : (e : OrderFault) → Err e ≡ read rest → text ≡ order_lines 0 (parse bs).orders
-  sofar_all e h = sym (append-nil text) ∙ ap (λ os. text ++ order_lines (length bs - length rest) os) (sym (parse_stops rest e h)) ∙ s.lines
+-- one more line, of the next order
+pub lines_more : {all more : List ℕ} (text : List ℕ) (s t : Orders) (x : ℕ × Order) → more ≡ text ++ order_line x.0 x.1 → GivesNext s (Some x) t → text ++ order_lines s.byte (parse s.rest.now).orders ≡ all → more ++ order_lines t.byte (parse t.rest.now).orders ≡ all
+lines_more {all} {more} text s t x e h so_far =
+    let rest : List ℕ = order_lines t.byte (parse t.rest.now).orders in
+    let next : order_lines s.byte (parse s.rest.now).orders ≡ order_line x.0 x.1 ++ rest =
+    ap (λ p. order_lines s.byte p.orders) (parse_more s.rest.now x.1 t.rest.now h.1)
+    ∙ ap (λ n. order_line s.byte x.1 ++ order_lines n (parse t.rest.now).orders) (sym h.3)
+    ∙ ap (λ n. order_line n x.1 ++ rest) (sym h.0)
+    in
+    ap (λ l. l ++ rest) e ∙ append_assoc text (order_line x.0 x.1) rest ∙ ap (λ l. text ++ l) (sym next) ∙ so_far
 
 -- the lines and the bytes of orders after others
 lines_append : (at : ℕ) (xs ys : List Order) → order_lines at (xs ++ ys) ≡ order_lines at xs ++ order_lines (at + size_all xs) ys

@@ -9,3 +9,4 @@ pub mod ReadIsWritten
 pub mod Streams
 pub mod WriterLoops
 pub mod Rooms
+pub mod Walks

@@ -151,13 +151,6 @@ pub record Ended (bs rest : List ℕ) (i : ℕ) (f : Option OrderFault) : Type 0
   pub count : i ≡ length (parse bs).orders
   pub bytes : length bs - length rest ≡ size_all (parse bs).orders
 
-never : {A : Type 0} {f : Option OrderFault} (e : OrderFault) → f ≡ None → f ≡ Some e → A
-never e none some = let z : ◌≡◌ {A = ℕ} 0 1 = cc in absurd (omega arith)
-
-cases_none : (n : ℕ) → (n ≡ 0) ⊎ (0 < n)
-cases_none zero = inl refl
-cases_none (suc n) = inr (omega arith)
-
 order_bytes : (os : List Order) → 2 * length os ≤ size_all os
 order_bytes [] = omega arith
 order_bytes (o ∷ os) = omega (arith, order_bytes os, (size_bounds o).0)
@@ -211,9 +204,9 @@ module _ {bs rest : List ℕ} {i : ℕ} (r : Reached bs rest i) where
   pub reached_all : length rest ≡ 0 → Ended bs rest i None
   reached_all none = ended None (ap parse (nil_from_length rest none) ∙ parse_none)
 
-  -- where the stream has no fault, one that is met is the end of the bytes
-  pub reached_end : (e : OrderFault) → (parse bs).fault ≡ None → Err e ≡ read rest → Ended bs rest i None
-  reached_end e sound h = ⊎_elim (λ none. reached_all none) (λ some. never e sound (reached_fault e some h).fault) (cases_none (length rest))
+  -- where the stream has no fault, no order is left at the end of the bytes alone
+  pub reached_end : (parse bs).fault ≡ None → (parse rest).orders ≡ [] → Ended bs rest i None
+  reached_end sound none = ended None (ap (λ os. record { orders = os; fault = (parse rest).fault }) none ∙ ap (λ f. record { orders = []; fault = f }) (r.fault ∙ sound))
 
 -- the orders read so far, at the front of what was there
 pub filled_more : (os was out : List Order) (i : ℕ) (o : Order) → Next os i o → i < length was → out ≡ take i os ++ drop i was → set out i o ≡ take (i + 1) os ++ drop (i + 1) was

@@ -8,3 +8,4 @@ pub mod Streams
 pub mod Numbers
 pub mod Parts
 pub mod Texts
+pub mod Iter

@@ -4,6 +4,7 @@
 pub mod bits;
 pub mod examples;
 pub mod fault;
+pub mod iter;
 mod kind;
 pub mod order;
 pub mod read;

@@ -1,49 +1,10 @@
 // Reads a whole stream.
 ghost use Rattle.std.specs.Prelude.{◌≡◌, ◌*◌, ◌≤◌, [], ◌++◌, length, take, drop, IfOk, Ok};
 ghost use Rattle.orders.specs.Streams.{parse, count_answer, read_answer, read_leaves, Fronts, OneReading};
-ghost use Rattle.orders.specs.Writing.{size_all};
 
-use crate::fault::{OrderFault, ReadFault, StreamFault};
+use crate::fault::{ReadFault, StreamFault};
+use crate::iter::Orders;
 use crate::order::Order;
-use crate::read::read_order;
-
-// The orders of a stream: how many there are, the bytes that they take, and the fault after them.
-#[derive(Drop)]
-struct Extent {
-    count: usize,
-    size: usize,
-    fault: Option<OrderFault>,
-}
-
-// Reads orders until the bytes end or have a fault.
-fn measure(bytes: &[u8]) -> Extent
-    ensures count { result.count ≡ length (parse bytes.now).orders }
-    ensures few { 2 * result.count ≤ length bytes.now }
-    ensures size { result.size ≡ size_all (parse bytes.now).orders }
-    ensures fault { result.fault ≡ (parse bytes.now).fault }
-    ensures reading { OneReading bytes.now }
-{
-    let mut rest = bytes;
-    let mut count: usize = 0;
-    while !rest.is_empty() {
-        match read_order(rest) {
-            Ok((_, after)) => rest = after,
-            Err(cause) => {
-                return Extent {
-                    count,
-                    size: bytes.len() - rest.len(),
-                    fault: Some(cause),
-                };
-            }
-        }
-        count += 1;
-    }
-    Extent {
-        count,
-        size: bytes.len(),
-        fault: None,
-    }
-}
 
 // Writes the orders of a stream, of which there are `count`, to the front of `out`.
 fn fill(bytes: &[u8], count: usize, out: &mut [Order])
@@ -52,12 +13,9 @@ fn fill(bytes: &[u8], count: usize, out: &mut [Order])
     ensures after { out.new ≡ (parse bytes.now).orders ++ drop count out.old }
     ensures form { Fronts (take count out.new) [] bytes.now }
 {
-    let mut rest = bytes;
-    let mut at = 0;
-    while let Ok((order, after)) = read_order(rest) {
+    // Not `out.iter_mut().zip(..)`: after that, a proof knows nothing of what the cells hold.
+    for (at, (_, order)) in Orders::new(bytes).enumerate() {
         out[at] = order;
-        at += 1;
-        rest = after;
     }
 }
 
@@ -67,15 +25,10 @@ pub fn count_orders(bytes: &[u8]) -> Result<usize, StreamFault>
     ensures at_most_one_for_two_bytes { IfOk result (λ n. 2 * n ≤ length bytes.now) }
     ensures written_up_to_the_fault { OneReading bytes.now }
 {
-    let extent = measure(bytes);
-    match extent.fault {
-        None => Ok(extent.count),
-        Some(cause) => Err(StreamFault {
-            index: extent.count,
-            byte: extent.size,
-            cause,
-        }),
-    }
+    let mut orders = Orders::new(bytes);
+    // Not a `for` over `&mut orders`: after that, a proof knows nothing of what `orders` is.
+    while orders.next().is_some() {}
+    orders.count_so_far()
 }
 
 // Reads the orders of a stream into the front of `out`, and says how many they are. Where the stream

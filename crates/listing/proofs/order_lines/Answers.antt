@@ -1,17 +1,13 @@
-use Rattle.std.proofs.Common.{string_bytes, sym, refl, ◌∙◌, subst}
-use Rattle.std.proofs.lemmas.Slice.{pushed}
-use Rattle.orders.proofs.ReadIsWritten.{rest_shorter}
-use Rattle.listing.proofs.Lines.{Sofar, sofar_more, sofar_all}
+use Rattle.std.proofs.Common.{◌≡◌, ◌++◌, rules, string_bytes, sym, ap, ◌∙◌}
+use Rattle.std.proofs.lemmas.List.{append-nil}
+use Rattle.listing.specs.Listing.{order_line, order_lines}
+use Rattle.listing.proofs.Lines.{lines_more}
 use Rattle.listing.proofs.order_lines.Goals as goal
 
-pub loop-order-smaller : goal.loop-order-smaller
-loop-order-smaller c = rest_shorter _ _ _ (sym c.in-Ok.ensures.order_and_rest_or_fault)
-
-pub loop-order-preserved : goal.loop-order-preserved
-loop-order-preserved c =
-    let line = c.as_str.ensures.value ∙ c.in_ok-line.ensures.text in
-    let next = sofar_more c.loop-order.invariant _ _ _ c.in-Ok.ensures.order_and_rest_or_fault line in
-    subst (Sofar _ _) (sym (pushed {was = string_bytes c.loop-order.text} c.as_str.result.now refl c.in_ok-push_str.was c.push_str.ensures.bytes)) next
+pub loop-byte-preserved : goal.loop-byte-preserved
+loop-byte-preserved c =
+    let line : string_bytes c.writeln.new.self ≡ string_bytes c.loop-byte.text ++ order_line c.in-Some.byte c.in-Some.order = search rules in
+    lines_more (string_bytes c.loop-byte.text) c.loop-byte.byte-iterator c.next.new.self (c.in-Some.byte, c.in-Some.order) line c.in-Some.ensures.steps c.loop-byte.invariant
 
 pub returns : goal.returns
-returns c = record { text = sofar_all c.loop-order.invariant _ c.in_default.ensures.order_and_rest_or_fault }
+returns c = record { text = sym (append-nil (string_bytes c.loop-byte.text)) ∙ ap (λ os. string_bytes c.loop-byte.text ++ order_lines c.loop-byte.byte-iterator.byte os) (sym c.in-None.ensures.steps.1) ∙ c.loop-byte.invariant }

@@ -1,9 +1,7 @@
-use Rattle.std.proofs.Common.{length, string_bytes}
-use Rattle.listing.proofs.Lines.{Sofar}
+use Rattle.std.proofs.Common.{◌≡◌, ◌++◌, string_bytes}
+use Rattle.orders.specs.Streams.{parse}
+use Rattle.listing.specs.Listing.{order_lines}
 use Rattle.listing.proofs.order_lines.Given as goal
 
-abbrev pub invariant-loop-order : goal.invariant-loop-order
-invariant-loop-order l = Sofar l.bytes l.rest (string_bytes l.text)
-
-abbrev pub decreases-loop-order : goal.decreases-loop-order
-decreases-loop-order l = length l.rest
+abbrev pub invariant-loop-byte : goal.invariant-loop-byte
+invariant-loop-byte l = string_bytes l.text ++ order_lines l.byte-iterator.byte (parse l.byte-iterator.rest.now).orders ≡ order_lines 0 (parse l.bytes).orders

@@ -1,0 +1,5 @@
+use Rattle.orders.proofs.Walks.{Walked}
+use Rattle.orders.proofs.stream.count_orders.Given as goal
+
+abbrev pub invariant-loop : goal.invariant-loop
+invariant-loop l = Walked l.bytes l.orders
