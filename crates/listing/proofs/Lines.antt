@@ -16,9 +16,9 @@ pub lines_more : {all more : List ℕ} (text : List ℕ) (s t : Orders) (x : ℕ
 lines_more {all} {more} text s t x e h so_far =
     let rest : List ℕ = order_lines t.byte (parse t.rest.now).orders in
     let next : order_lines s.byte (parse s.rest.now).orders ≡ order_line x.0 x.1 ++ rest =
-    ap (λ p. order_lines s.byte p.orders) (parse_more s.rest.now x.1 t.rest.now h.1)
-    ∙ ap (λ n. order_line s.byte x.1 ++ order_lines n (parse t.rest.now).orders) (sym h.3)
-    ∙ ap (λ n. order_line n x.1 ++ rest) (sym h.0)
+    ap (λ p. order_lines s.byte p.orders) (parse_more s.rest.now x.1 t.rest.now h.order)
+    ∙ ap (λ n. order_line s.byte x.1 ++ order_lines n (parse t.rest.now).orders) (sym h.byte)
+    ∙ ap (λ n. order_line n x.1 ++ rest) (sym h.begins)
     in
     ap (λ l. l ++ rest) e ∙ append_assoc text (order_line x.0 x.1) rest ∙ ap (λ l. text ++ l) (sym next) ∙ so_far
 

@@ -1,9 +1,8 @@
 -- Going over the orders of a stream. Assumes nothing.
-use Rattle.std.proofs.Common.{◌≡◌, ℕ, ◌+◌, ◌*◌, ◌≤◌, true, false, List, [], ◌∷◌, length, Some, None, Ok, Err, Option, Result, sym, refl, ap, ◌∙◌, subst, arith}
+use Rattle.std.proofs.Common.{◌≡◌, ℕ, ◌+◌, ◌*◌, ◌≤◌, true, false, List, [], ◌∷◌, length, Some, None, Ok, Err, Option, Result, sym, refl, ap, ◌∙◌, arith}
 use Rattle.std.specs.Prelude.{IfOk, is_some}
 use Rattle.std.proofs.lemmas.Bool.{false≢true}
 use Rattle.orders.specs.declared.fault.OrderFault.{OrderFault}
-use Rattle.orders.specs.declared.fault.StreamFault.{StreamFault}
 use Rattle.orders.specs.declared.iter.Orders.{Orders}
 use Rattle.orders.specs.declared.order.Order.{Order}
 use Rattle.orders.specs.Iter.{GivesNext, count_or, count_to}
@@ -20,8 +19,8 @@ pub record Walked (bs : List ℕ) (s : Orders) : Type 0 where
 module _ {bs : List ℕ} {s t : Orders} (w : Walked bs s) where
   walked_more : (x : ℕ × Order) → GivesNext s (Some x) t → Walked bs t
   walked_more x h =
-      let size = read_size _ _ _ h.1 in
-      record { at = rw h.2 (reached_more w.at _ _ h.1); byte = omega (arith, w.byte, h.3) }
+      let size = read_size _ _ _ h.order in
+      record { at = rw h.index (reached_more w.at _ _ h.order); byte = omega (arith, w.byte, h.byte) }
 
   -- one more order came
   pub walked_on : (r : Option (ℕ × Order)) → true ≡ is_some r → GivesNext s r t → Walked bs t
@@ -60,5 +59,5 @@ module _ {bs : List ℕ} {s : Orders} (w : Walked bs s) where
   told_at (x ∷ xs) is none = told_read x xs (read (x ∷ xs)) is refl none
 
 pub walked_off : {bs : List ℕ} {s t : Orders} (w : Walked bs s) (r : Option (ℕ × Order)) → false ≡ is_some r → GivesNext s r t → Told bs t
-walked_off {s = s} w None none h = rw h.0 (told_at w s.rest.now refl h.1)
+walked_off {s = s} w None none h = rw h.stays (told_at w s.rest.now refl h.none)
 walked_off w (Some x) none h = absurd (false≢true none)

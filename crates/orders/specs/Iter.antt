@@ -13,10 +13,21 @@ use Rattle.orders.specs.Writing.{size_of}
 abbrev pub bytes_left : Orders → Count
 bytes_left s = at_most (length s.rest.now)
 
--- the next order, with the byte at which it begins, or nothing where no order can be read
+-- an order came, with the byte at which it begins
+pub record Came (s : Orders) (x : ℕ × Order) (t : Orders) : Type 0 where
+  pub begins : x.0 ≡ s.byte
+  pub order : Ok (x.1, t.rest.now) ≡ read s.rest.now
+  pub index : t.index ≡ s.index + 1
+  pub byte : t.byte ≡ s.byte + size_of x.1
+
+-- none came, since no order can be read
+pub record Ended (s t : Orders) : Type 0 where
+  pub stays : t ≡ s
+  pub none : (parse s.rest.now).orders ≡ []
+
+-- the next order, or nothing
 abbrev pub GivesNext : Orders → Option (ℕ × Order) → Orders → Type 0
-GivesNext s r t = MatchOption r ((t ≡ s) × ((parse s.rest.now).orders ≡ []))
-    (λ x. (x.0 ≡ s.byte) × (Ok (x.1, t.rest.now) ≡ read s.rest.now) × (t.index ≡ s.index + 1) × (t.byte ≡ s.byte + size_of x.1))
+GivesNext s r t = MatchOption r (Ended s t) (λ x. Came s x t)
 
 -- the count n, unless bytes that begin at byte b were read with a fault
 abbrev pub count_or : ℕ → ℕ → Result (Order × List ℕ) OrderFault → Result ℕ StreamFault

@@ -14,6 +14,7 @@ pub struct BitReader<'a> {
 }
 
 // Bit `i` of the bytes.
+#[tactic(auto, using(std::proofs::lemmas::Nat::and_mask), unfolding(crate::specs::Bits::bit_at))]
 fn bit_at(bytes: &[u8], i: usize) -> u8
     requires inside { i < 8 * length bytes.now }
     ensures value { result ≡ bit_at bytes.now i }

@@ -7,7 +7,7 @@ use crate::read::read_order;
 
 // The orders of a stream, each with the byte at which it begins. They end with the bytes, or before
 // the first fault.
-#[derive(Clone, Copy, Drop)]
+#[derive(Drop)]
 pub struct Orders<'a> {
     // The bytes that are not read yet, how many orders came before them, and how many bytes.
     rest: &'a [u8],

@@ -49,6 +49,7 @@ pub fn read_orders(bytes: &[u8], out: &mut [Order]) -> Result<usize, ReadFault>
 #[cfg(test)]
 mod tests {
     use super::*;
+    use crate::fault::OrderFault;
 
     // lift gate 1, and plan for 2
     const TWO_ORDERS: [u8; 4] = [0x20, 0x20, 0x61, 0x00];

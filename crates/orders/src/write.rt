@@ -81,6 +81,7 @@ impl Order {
 }
 
 // Whether `width` bits hold a number.
+#[tactic(auto, using(std::proofs::lemmas::Nat::one_shl))]
 fn number_fits(width: u32, value: u64) -> bool
     requires narrow { width < 64 }
     ensures value { result ≡ nat_lt value (2 ^ width) }

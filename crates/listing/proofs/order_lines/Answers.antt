@@ -10,4 +10,4 @@ loop-byte-preserved c =
     lines_more (string_bytes c.loop-byte.text) c.loop-byte.byte-iterator c.next.new.self (c.in-Some.byte, c.in-Some.order) line c.in-Some.ensures.steps c.loop-byte.invariant
 
 pub returns : goal.returns
-returns c = record { text = sym (append-nil (string_bytes c.loop-byte.text)) ∙ ap (λ os. string_bytes c.loop-byte.text ++ order_lines c.loop-byte.byte-iterator.byte os) (sym c.in-None.ensures.steps.1) ∙ c.loop-byte.invariant }
+returns c = record { text = sym (append-nil (string_bytes c.loop-byte.text)) ∙ ap (λ os. string_bytes c.loop-byte.text ++ order_lines c.loop-byte.byte-iterator.byte os) (sym c.in-None.ensures.steps.none) ∙ c.loop-byte.invariant }
