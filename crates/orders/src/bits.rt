@@ -59,9 +59,7 @@ impl BitReader<'_> {
         ensures within_width { IfOk result (λ v. v < 2 ^ width) }
         ensures cut_from_one_number { IfOk result (λ v. v ≡ cut_from self.old.bytes.now self.old.at width) }
     {
-        let Some(end) = self.end_of(width) else {
-            return Err(BitFault::Ends);
-        };
+        let end = self.end_of(width).ok_or(BitFault::Ends)?;
         let value = number_in(self.bytes, self.at, width);
         self.at = end;
         Ok(value)

@@ -58,6 +58,7 @@ impl Iterator for Orders<'_> {
 
     ghost remaining = { bytes_left };
 
+    #[tactic(auto, using(crate::proofs::Streams::read_size, crate::proofs::Streams::parse_stops))]
     fn next(&mut self) -> Option<(usize, Order)> {
         let Ok((order, rest)) = read_order(self.rest) else {
             return None;

@@ -44,7 +44,8 @@ fn read_fields(reader: &mut BitReader, kind: Kind) -> Result<Order, OrderFault>
     requires after_kind { reader.old.at ≡ 3 }
     ensures same { reader.new.bytes.now ≡ reader.old.bytes.now }
     ensures value { result ≡ fields_read (code_of kind) reader.old.bytes.now }
-    ensures moved { OnOk result ((reader.new.at ≡ width_of (code_of kind)) × (width_of (code_of kind) ≤ 8 * length reader.old.bytes.now)) }
+    ensures moved { OnOk result (reader.new.at ≡ width_of (code_of kind)) }
+    ensures within { OnOk result (width_of (code_of kind) ≤ 8 * length reader.old.bytes.now) }
 {
     match kind {
         Kind::Set => Ok(Order::Set(read_place(reader)?)),
@@ -69,7 +70,7 @@ fn read_padding(reader: &mut BitReader) -> Result<(), OrderFault>
     ensures value { result ≡ padding_read reader.old.at reader.old.bytes.now }
     ensures moved { OnOk result (reader.new.at ≡ reader.old.at + padding_after reader.old.at) }
 {
-    let bits = (8 - reader.at % 8) % 8;
+    let bits = reader.at.next_multiple_of(8) - reader.at;
     if reader.field(bits as u32)? != 0 {
         return Err(OrderFault::Padding);
     }

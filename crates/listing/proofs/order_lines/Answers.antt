@@ -9,5 +9,3 @@ loop-byte-preserved c =
     let line : string_bytes c.writeln.new.self ≡ string_bytes c.loop-byte.text ++ order_line c.in-Some.byte c.in-Some.order = search rules in
     lines_more (string_bytes c.loop-byte.text) c.loop-byte.byte-iterator c.next.new.self (c.in-Some.byte, c.in-Some.order) line c.in-Some.ensures.steps c.loop-byte.invariant
 
-pub returns : goal.returns
-returns c = record { text = sym (append-nil (string_bytes c.loop-byte.text)) ∙ ap (λ os. string_bytes c.loop-byte.text ++ order_lines c.loop-byte.byte-iterator.byte os) (sym c.in-None.ensures.steps.none) ∙ c.loop-byte.invariant }

@@ -22,7 +22,7 @@ returns-in_err-read_padding c =
     let p = err_from_is_err_and c.from_residual-in_err-read_padding.result c.from_residual-in_err-read_padding.ensures.1 in
     let body = c.in_ok-order.ensures in
     let pads = rw body.same at c.in_err-read_padding.ensures.value in
-    rw (p.1, p.2) record { order_and_rest_or_fault = no_padding c.args.bytes.now _ (search rules) (c.in_ok-kind.ensures ∙ kind_top c.args.bytes.now (c.type_inv.bytes 0).fits) _ _ body.value body.moved.0 _ pads; what_the_writer_makes = tt }
+    rw (p.1, p.2) record { order_and_rest_or_fault = no_padding c.args.bytes.now _ (search rules) (c.in_ok-kind.ensures ∙ kind_top c.args.bytes.now (c.type_inv.bytes 0).fits) _ _ body.value body.moved _ pads; what_the_writer_makes = tt }
 
 pub returns : goal.returns
 returns c =
@@ -31,6 +31,6 @@ returns c =
     let moved = c.in_ok-read_padding.ensures.moved in
     let some = width_some (code_of c.in_ok-kind.kind) in
     let end : c.read_padding.new.reader.at / 8 ≡ whole_bytes c.read_fields.new.reader.at = omega arith in
-    let told = ap (λ l. Ok (c.in_ok-order.order, l)) (cut_rest c.args.bytes.now _ _ (omega (arith, body.moved)) end)
-    ∙ whole_order c.args.bytes.now _ (search rules) (c.in_ok-kind.ensures ∙ kind_top c.args.bytes.now (c.type_inv.bytes 0).fits) _ _ body.value body.moved.0 pads in
+    let told = ap (λ l. Ok (c.in_ok-order.order, l)) (cut_rest c.args.bytes.now _ _ (omega (arith, body.moved, body.within)) end)
+    ∙ whole_order c.args.bytes.now _ (search rules) (c.in_ok-kind.ensures ∙ kind_top c.args.bytes.now (c.type_inv.bytes 0).fits) _ _ body.value body.moved pads in
     record { order_and_rest_or_fault = told; what_the_writer_makes = read_front c.args.bytes.now _ _ (bytes_typed _ c.type_inv.bytes) (sym told) }
