@@ -31,11 +31,7 @@ fn number_in(bytes: &[u8], from: usize, width: u32) -> u64
     ensures small { result < 2 ^ width }
     ensures cut { result ≡ cut_from bytes.now from width }
 {
-    let mut value: u64 = 0;
-    for i in from..from + width as usize {
-        value = value << 1 | bit_at(bytes, i) as u64;
-    }
-    value
+    (from..from + width as usize).fold(0, |value, i| value << 1 | bit_at(bytes, i) as u64)
 }
 
 impl BitReader<'_> {

@@ -1,18 +1,18 @@
-use Rattle.std.proofs.Common.{◌≡◌, ◌-◌, ◌∙◌, arith}
+use Rattle.std.proofs.Common.{◌≡◌, ◌+◌, ◌∙◌, refl, arith, rules}
+use Rattle.std.proofs.lemmas.Iterator.{YieldsList-from_range}
+use Rattle.std.proofs.lemmas.Iterator.Consumers.{fold_from_yields_List}
+use Rattle.orders.specs.Bits.{field_at}
 use Rattle.orders.proofs.Bytes.{bytes_typed, field_is_cut}
-use Rattle.orders.proofs.Fields.{field_none, field_more, field_small}
+use Rattle.orders.proofs.Fields.{field_folded, field_small, with_bit}
 use Rattle.orders.proofs.bits.number_in.Goals as goal
-
-pub loop-i-init : goal.loop-i-init
-loop-i-init c = field_none _ _ _ (omega arith)
-
-pub loop-i-preserved : goal.loop-i-preserved
-loop-i-preserved c = field_more _ _ _ _ _ (omega arith) (omega arith) c.loop-i.invariant c.bit_at.ensures.value
 
 pub returns : goal.returns
 returns c =
-    let all : c.loop-i.i - c.args.from ≡ c.args.width = omega arith in
-    let e = rw all at c.loop-i.invariant in
+    let road = YieldsList-from_range c.args.from (c.args.from + c.args.width) c.args.width refl (omega arith) in
+    let e : c.fold.result ≡ field_at c.args.bytes.now c.args.from c.args.width =
+    fold_from_yields_List _ (with_bit c.args.bytes.now) 0 c.fold.result c.fold.ensures.ran road (λ a x b q k. search rules)
+    ∙ field_folded c.args.bytes.now c.args.from c.args.width c.requires.narrow
+    in
     record {
       value = e;
       small = rw e (field_small _ _ _);
