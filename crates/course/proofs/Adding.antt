@@ -24,12 +24,18 @@ use Rattle.course.proofs.Passing.{none_beside}
 not_both_above : (a b : Gate) → above a b ≡ true → above b a ≡ false
 not_both_above a b h = false_from_ne_true (above b a) (λ e. let l = above_nearer a b h in let m = above_nearer b a e in omega arith)
 
+first_over : (x : Gate) (xs : List Gate) → AllPairs Over (x ∷ xs) → All (Over x) xs
+first_over x xs h i d l = h 0 (suc i) d (omega arith) (omega arith)
+
+rest_over : (x : Gate) (xs : List Gate) → AllPairs Over (x ∷ xs) → AllPairs Over xs
+rest_over x xs h i j d l m = h (suc i) (suc j) d (omega arith) (omega arith)
+
 -- one more gate, between two parts
 between : (xs ys : List Gate) (g : Gate) → AllPairs Over (xs ++ ys) → All (λ x. Over x g) xs → All (Over g) ys → AllPairs Over (xs ++ g ∷ ys)
 between [] ys g h a b = AllPairs-cons Over g ys b h
 between (x ∷ xs) ys g h a b =
-    let first = All-cons (Over x) g (xs ++ ys) (All-head (λ y. Over y g) x xs a) (λ k d l. h 0 (suc k) d (omega arith) (omega arith)) in
-    let rest = between xs ys g (λ i j d l m. h (suc i) (suc j) d (omega arith) (omega arith)) (All-tail (λ y. Over y g) x xs a) b in
+    let first = All-cons (Over x) g (xs ++ ys) (All-head (λ y. Over y g) x xs a) (first_over x (xs ++ ys) h) in
+    let rest = between xs ys g (rest_over x (xs ++ ys) h) (All-tail (λ y. Over y g) x xs a) b in
     AllPairs-cons Over x (xs ++ g ∷ ys) (All-permutation (Over x) (g ∷ (xs ++ ys)) (xs ++ g ∷ ys) (IsPermutation-sym (xs ++ g ∷ ys) (g ∷ (xs ++ ys)) (IsPermutation-middle xs g ys)) first) rest
 
 -- gates in order that are ordered with g are those above g and then those below g
@@ -39,11 +45,11 @@ parts g (x ∷ xs) h k =
     ⊎_elim
     (λ e.
     let n = not_both_above x g e in
-    let r = parts g xs (λ i j d l m. h (suc i) (suc j) d (omega arith) (omega arith)) (All-tail (λ y. ordered y g ≡ true) x xs k) in
+    let r = parts g xs (rest_over x xs h) (All-tail (λ y. ordered y g ≡ true) x xs k) in
     rw (e, n) (ap (λ (l : List Gate). x ∷ l) r))
     (λ b.
     let n = not_both_above g x b in
-    let below : All (λ y. above g y ≡ true) xs = (λ i d l. above_trans g x (get_or xs i d) b (h 0 (suc i) d (omega arith) (omega arith)).higher) in
+    let below : All (λ y. above g y ≡ true) xs = (λ i d l. above_trans g x (get_or xs i d) b (first_over x xs h i d l).higher) in
     let l = all_kept (λ y. above g y) xs below in
     let m = none_kept (λ y. above y g) xs (λ i d l. not_both_above g (get_or xs i d) (below i d l)) in
     rw (n, b, l, m))

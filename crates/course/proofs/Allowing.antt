@@ -1,5 +1,5 @@
 -- What an edit that is not refused may rely on. Assumes nothing.
-use Rattle.std.proofs.Common.{◌≡◌, ℕ, ◌<◌, Bool, true, false, cond, not, leb, List, length, Some, None, Option, refl, arith, leb-false}
+use Rattle.std.proofs.Common.{◌≡◌, ℕ, ◌<◌, Bool, true, false, cond, not, leb, List, length, Some, None, Option, refl, leb-false}
 use Rattle.std.proofs.lemmas.Bool.{lt-leb, not-false}
 use Rattle.course.specs.declared.gate.Gate.{Gate}
 use Rattle.course.specs.declared.refusal.Refusal.{Refusal}
@@ -21,11 +21,11 @@ pub record Relocatable (gs : List Gate) (g : Gate) : Type 0 where
 
 no_refusal : (o : Option ℕ) → beside_refusal o ≡ None → o ≡ None
 no_refusal None h = refl
-no_refusal (Some n) h = let z : ◌≡◌ {A = ℕ} 0 1 = cc in absurd (omega arith)
+no_refusal (Some n) h = absurd cc
 
 -- a test whose refusal did not come
 passed : (b : Bool) (r : Refusal) (rest : Option Refusal) → cond b (Some r) rest ≡ None → (b ≡ false) × (rest ≡ None)
-passed true r rest h = let z : ◌≡◌ {A = ℕ} 0 1 = cc in absurd (omega arith)
+passed true r rest h = absurd cc
 passed false r rest h = (refl, h)
 
 module _ (gs : List Gate) (g : Gate) where

@@ -42,7 +42,7 @@ module _ (g : Gate) where
     pub none_beside : beside g gs ≡ None → All (λ x. is_beside g x ≡ false) gs
     none_beside h =
         ⊎_elim
-        (λ l. let s = sym h ∙ some_where l in let z : ◌≡◌ {A = ℕ} 0 1 = cc in absurd (omega arith))
+        (λ l. let s = sym h ∙ some_where l in absurd cc)
         (λ l k d m. fails_before_first (is_beside g) gs k d (omega arith))
         (cases_lt (first g gs) (length gs))
 
@@ -57,7 +57,7 @@ module _ (g : Gate) where
     first_told n h =
         ⊎_elim
         (λ l. let s = sym (some_where l) ∙ h in (l, cc))
-        (λ l. let s = sym h ∙ none_where l in let z : ◌≡◌ {A = ℕ} 0 1 = cc in absurd (omega arith))
+        (λ l. let s = sym h ∙ none_where l in absurd cc)
         (cases_lt (first g gs) (length gs))
 
   -- what a search of the gates from i on finds

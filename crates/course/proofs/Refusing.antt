@@ -60,7 +60,7 @@ could_relocate g gs after r =
 -- what could leave something is not refused
 rightly : (o : Option Refusal) (could : List Gate → Type 0) → ((after : List Gate) → could after → o ≡ None) → RefusedRightly (answer o) could
 rightly None could f = tt
-rightly (Some r) could f = λ after c. let e = f after c in let z : ◌≡◌ {A = ℕ} 0 1 = cc in omega arith
+rightly (Some r) could f = λ after c. let e = f after c in cc
 
 module _ (gs : List Gate) where
   pub add_rightly : (g : Gate) → RefusedRightly (add_answer gs g) (OneMore g gs)

@@ -1,5 +1,5 @@
 -- A gate that may get a new place may be added to the others. Assumes nothing.
-use Rattle.std.proofs.Common.{◌≡◌, ℕ, false, not, List, ◌∷◌, Some, None, Ok, Option, refl, ap, ◌∙◌, arith}
+use Rattle.std.proofs.Common.{◌≡◌, false, not, List, ◌∷◌, Some, None, Ok, Option, refl, ap, ◌∙◌, arith}
 use Rattle.std.proofs.lemmas.List.Elements.{All-filter}
 use Rattle.std.proofs.lemmas.List.Sorted.{length_permutation}
 use Rattle.std.proofs.lemmas.Map.Views.{any-filter_same}
@@ -13,7 +13,7 @@ use Rattle.course.proofs.Passing.{is_beside, none_beside, beside_none}
 
 allowed : (o : Option Refusal) → answer o ≡ Ok tt → o ≡ None
 allowed None h = refl
-allowed (Some r) h = let z : ◌≡◌ {A = ℕ} 0 1 = cc in absurd (omega arith)
+allowed (Some r) h = absurd cc
 
 module _ (gs rest : List Gate) (g : Gate) (k : IsCourse gs) (h : relocate_answer gs g ≡ Ok tt) (is : rest ≡ after_remove gs g.number) (o : OneLess g.number gs rest) where
   m : Relocatable gs g

@@ -13,6 +13,6 @@ pub const MAX_GATES: usize = 200;
 // Gates in range, with different numbers, each above all that come after it.
 #[derive(Clone, Copy)]
 pub struct Course {
-    gates: Row<Gate, 200>,
+    gates: Row<Gate, MAX_GATES>,
     ghost course: { IsCourse gates.items },
 }
