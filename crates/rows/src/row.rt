@@ -1,11 +1,12 @@
 // A row: at most N items, kept in place.
-ghost use Rattle.std.specs.Prelude.{◌≡◌, ◌≤◌, [], length, take, slice_get};
+ghost use Rattle.std.specs.Prelude.{◌≡◌, ◌≤◌, [], length, slice_get};
 ghost use Rattle.std.specs.List.{remove};
 ghost use Rattle.rows.specs.Rows.{fitting, items_made, insert_answer, after_insert};
 
 use std::marker::Model;
 
-// At most N items, one after another, and then cells that are not in use. The library's ArrayVec is not Copy.
+// At most N items, one after another, and then cells that are not in use.
+// It stands in place of the library's ArrayVec, which is not Copy.
 #[derive(Clone, Copy)]
 pub struct Row<T, const N: usize> {
     cells: [T; N],
