@@ -22,7 +22,8 @@ fn sign_extended(bits: u32) -> i32
     }
 }
 
-// The fields of a set or a move.
+// The fields of a set or a move. Here and below a contract says that the bytes are kept: of a `&mut` no
+// type can say so.
 fn read_place(reader: &mut BitReader) -> Result<Place, BitFault>
     requires after_kind { reader.old.at ≡ 3 }
     ensures same { reader.new.bytes.now ≡ reader.old.bytes.now }

@@ -7,22 +7,22 @@ use Rattle.orders.proofs.Reading.{kind_top, no_kind, width_some, no_fields, no_p
 use Rattle.orders.proofs.Streams.{read_front}
 use Rattle.orders.proofs.read.read_order.Goals as goal
 
-pub returns-in_err-kind : goal.returns-in_err-kind
-returns-in_err-kind c =
+pub returns-in_err-kind-clause-order_and_rest_or_fault : goal.returns-in_err-kind-clause-order_and_rest_or_fault
+returns-in_err-kind-clause-order_and_rest_or_fault c =
     let p = err_from_is_err_and c.from_residual.result c.from_residual.ensures.1 in
-    rw (p.1, p.2) record { order_and_rest_or_fault = no_kind c.args.bytes.now _ _ (search rules) (kind_top c.args.bytes.now (c.type_inv.bytes 0).fits) c.in_err-kind.ensures; what_the_writer_makes = tt }
+    rw (p.1, p.2) (no_kind c.args.bytes.now _ _ (search rules) (kind_top c.args.bytes.now (c.type_inv.bytes 0).fits) c.in_err-kind.ensures)
 
-pub returns-in_err-order : goal.returns-in_err-order
-returns-in_err-order c =
+pub returns-in_err-order-clause-order_and_rest_or_fault : goal.returns-in_err-order-clause-order_and_rest_or_fault
+returns-in_err-order-clause-order_and_rest_or_fault c =
     let p = err_from_is_err_and c.from_residual-in_err-order.result c.from_residual-in_err-order.ensures.1 in
-    rw (p.1, p.2) record { order_and_rest_or_fault = no_fields c.args.bytes.now _ (search rules) (c.in_ok-kind.ensures ∙ kind_top c.args.bytes.now (c.type_inv.bytes 0).fits) _ c.in_err-order.ensures.value; what_the_writer_makes = tt }
+    rw (p.1, p.2) (no_fields c.args.bytes.now _ (search rules) (c.in_ok-kind.ensures ∙ kind_top c.args.bytes.now (c.type_inv.bytes 0).fits) _ c.in_err-order.ensures.value)
 
-pub returns-in_err-read_padding : goal.returns-in_err-read_padding
-returns-in_err-read_padding c =
+pub returns-in_err-read_padding-clause-order_and_rest_or_fault : goal.returns-in_err-read_padding-clause-order_and_rest_or_fault
+returns-in_err-read_padding-clause-order_and_rest_or_fault c =
     let p = err_from_is_err_and c.from_residual-in_err-read_padding.result c.from_residual-in_err-read_padding.ensures.1 in
     let body = c.in_ok-order.ensures in
     let pads = rw body.same at c.in_err-read_padding.ensures.value in
-    rw (p.1, p.2) record { order_and_rest_or_fault = no_padding c.args.bytes.now _ (search rules) (c.in_ok-kind.ensures ∙ kind_top c.args.bytes.now (c.type_inv.bytes 0).fits) _ _ body.value body.moved _ pads; what_the_writer_makes = tt }
+    rw (p.1, p.2) (no_padding c.args.bytes.now _ (search rules) (c.in_ok-kind.ensures ∙ kind_top c.args.bytes.now (c.type_inv.bytes 0).fits) _ _ body.value body.moved _ pads)
 
 pub returns : goal.returns
 returns c =
