@@ -15,7 +15,11 @@ fn main(rt: HostRuntime) -> anyhow::Result<()> {
     for (title, course, edits) in [
         ("edits of H", hill_h(), &tables::OF_H[..]),
         ("edits of no gates", Course::new(), &tables::OF_NO_GATES[..]),
-        ("edits of 200 gates", full_course(), &tables::OF_200_GATES[..]),
+        (
+            "edits of 200 gates",
+            full_course(),
+            &tables::OF_200_GATES[..],
+        ),
     ] {
         rt.println(title)?;
         for edit in edits {

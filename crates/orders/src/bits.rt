@@ -31,7 +31,7 @@ fn number_in(bytes: &[u8], from: usize, width: u32) -> u64
     ensures small { result < 2 ^ width }
     ensures cut { result ≡ cut_from bytes.now from width }
 {
-    (from..from + width as usize).fold(0, |value, i| value << 1 | bit_at(bytes, i) as u64)
+    (from..from + width as usize).fold(0, |value, i| value << 1 | u64::from(bit_at(bytes, i)))
 }
 
 impl BitReader<'_> {

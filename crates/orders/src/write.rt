@@ -15,8 +15,8 @@ impl Place {
     fn fits(&self) -> bool
         ensures value { result ≡ place_fits self.now }
     {
-        number_fits(8, self.gate as u64)
-            && number_fits(20, self.distance as u64)
+        number_fits(8, u64::from(self.gate))
+            && number_fits(20, u64::from(self.distance))
             && height_fits(self.height)
     }
 
@@ -25,8 +25,8 @@ impl Place {
         requires fitting { place_fits self.now ≡ true }
         ensures value { result ≡ appended 0 (place_fields (code_of kind) self.now) }
     {
-        let front = append(kind.code(), 8, self.gate as u64);
-        let front = append(front, 20, self.distance as u64);
+        let front = append(kind.code(), 8, u64::from(self.gate));
+        let front = append(front, 20, u64::from(self.distance));
         let front = append(front, 20, height_bits(self.height));
         append(front, 5, 0)
     }
@@ -39,8 +39,8 @@ impl Order {
     {
         match self {
             Order::Set(place) | Order::Move(place) => place.fits(),
-            Order::Lift { gate } => number_fits(8, *gate as u64),
-            Order::PlanFor { zones } => number_fits(6, *zones as u64),
+            Order::Lift { gate } => number_fits(8, u64::from(*gate)),
+            Order::PlanFor { zones } => number_fits(6, u64::from(*zones)),
             Order::PlanWithin { limit } => number_fits(43, *limit),
         }
     }
@@ -64,8 +64,8 @@ impl Order {
         let kind = self.kind();
         match self {
             Order::Set(place) | Order::Move(place) => place.as_number(kind),
-            Order::Lift { gate } => append(append(kind.code(), 8, *gate as u64), 5, 0),
-            Order::PlanFor { zones } => append(append(kind.code(), 6, *zones as u64), 7, 0),
+            Order::Lift { gate } => append(append(kind.code(), 8, u64::from(*gate)), 5, 0),
+            Order::PlanFor { zones } => append(append(kind.code(), 6, u64::from(*zones)), 7, 0),
             Order::PlanWithin { limit } => append(append(kind.code(), 43, *limit), 2, 0),
         }
     }
