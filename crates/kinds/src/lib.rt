@@ -2,7 +2,7 @@
 #![tactic(auto)]
 
 ghost use Rattle.std.specs.Prelude.{◌≡◌, ◌^◌, ◌<◌, pos, ◌-ℤ◌, unsigned_abs};
-ghost use Rattle.course.specs.Distances.{square, apart};
+ghost use Rattle.course.specs.Distances.{apart};
 
 use course::Gate;
 
@@ -32,18 +32,11 @@ fn higher(a: Gate, b: Gate) -> i64
     i64::from(a.height) - i64::from(b.height)
 }
 
-// The square of a difference.
-fn squared(difference: i64) -> u128
-    ensures product { result ≡ square difference }
-    ensures small { result < 2 ^ 127 }
-{
-    let size = u128::from(difference.unsigned_abs());
-    size * size
-}
-
 // The squared distance of two gates.
 fn distance_squared(a: Gate, b: Gate) -> u128
     ensures squared_distance { result ≡ apart a b }
 {
-    squared(farther(a, b)) + squared(higher(a, b))
+    let along = farther(a, b).unsigned_abs();
+    let up = higher(a, b).unsigned_abs();
+    u128::from(along * along) + u128::from(up * up)
 }
