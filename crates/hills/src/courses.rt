@@ -40,7 +40,7 @@ pub fn hill_v() -> Course
 pub fn full_course() -> Course
     ensures gates_of_the_slope { gates_of result ≡ slope 200 }
 {
-    let gates: [Gate; 200] = array::from_fn(slope_gate);
+    let gates: [Gate; 200] = array::from_fn(|number| slope_gate(number as u8));
     course_of(&gates)
 }
 
@@ -67,9 +67,8 @@ fn gate(number: u8, distance: u32, height: i32) -> Gate
 }
 
 // The gate with this number on the slope.
-fn slope_gate(number: usize) -> Gate
-    requires few { number < 200 }
+fn slope_gate(number: u8) -> Gate
     ensures placed { result ≡ slope_gate number }
 {
-    gate(number as u8, number as u32, -(number as i32))
+    gate(number, u32::from(number), -i32::from(number))
 }
