@@ -12,9 +12,11 @@ ghost use Rattle.costs.specs.Masts.{ReachesAll};
 use course::Course;
 
 mod mast;
+mod numeric;
 mod span;
 
 pub use mast::Mast;
+pub use numeric::Numeric;
 pub use span::{Span, is_span};
 
 // A cost kind: its values and their order, and what every span and every group of gates of a course costs.

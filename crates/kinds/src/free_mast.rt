@@ -1,15 +1,14 @@
 // A mast at any place.
-ghost use Rattle.std.specs.Prelude.{◌≡◌, ◌^◌, ◌<◌, nat_le};
+ghost use Rattle.std.specs.Prelude.{◌≡◌, ◌^◌, ◌<◌};
 ghost use Rattle.course.specs.View.{gates_of};
 ghost use Rattle.costs.specs.Groups.{of_span, span, EveryGroup, Told};
 ghost use Rattle.kinds.specs.FreeMast.{free_mast_span, free_mast_group, free_mast_mast, LeastOverPlaces};
 ghost use Rattle.course.specs.Distances.{apart};
 ghost use Rattle.course.proofs.Squares.{apart_within};
 ghost use Rattle.costs.proofs.Ends.{ends_laws};
-ghost use Rattle.std.proofs.Common.{rules};
 
 use crate::distance_squared;
-use costs::{Cost, Mast, Masted, Span, Whole};
+use costs::{Mast, Masted, Numeric, Span};
 use course::Course;
 
 // The kind: four times the least, over all places, of the greatest squared distance to a gate of the group.
@@ -28,34 +27,16 @@ pub fn free_mast_cost(course: &Course, first: usize, last: usize) -> Option<u64>
     Some(ends_apart(&Span::of(course, first, last)?))
 }
 
-impl Cost for FreeMast {
-    type Value = u64;
+impl Numeric for FreeMast {
+    ghost span_number = { λ _. free_mast_span };
 
-    ghost not_greater = { nat_le };
-
-    ghost span_cost = { λ _. free_mast_span };
-
-    ghost group_cost = { λ _. free_mast_group };
-
-    ghost reads_as = { λ _ n. n };
+    ghost group_number = { λ _. free_mast_group };
 
     ghost lawful = { ends_laws apart apart_within };
 
-    fn span_cost(&self, span: &Span) -> u64 {
+    fn number(&self, span: &Span) -> u64 {
         ends_apart(span)
     }
-
-    fn not_greater(a: u64, b: u64) -> bool {
-        a <= b
-    }
-
-    fn read(&self, n: u64) -> u64 {
-        n
-    }
-}
-
-impl Whole for FreeMast {
-    ghost usual = { Prim.search rules };
 }
 
 impl Masted for FreeMast {

@@ -1,5 +1,5 @@
 // A mast at one of the gates of its group.
-ghost use Rattle.std.specs.Prelude.{◌≡◌, ◌^◌, ◌<◌, ◌≤◌, true, nat_le, refl};
+ghost use Rattle.std.specs.Prelude.{◌≡◌, ◌^◌, ◌<◌, ◌≤◌, true, refl};
 ghost use Rattle.course.specs.Gates.{in_range, gate_at};
 ghost use Rattle.course.specs.View.{gates_of};
 ghost use Rattle.costs.specs.Groups.{of_span, EveryGroup, Told};
@@ -7,10 +7,9 @@ ghost use Rattle.kinds.specs.GateMast.{gate_mast_group, gate_mast_span, gate_mas
 ghost use Rattle.kinds.specs.Parts.{FirstFarther};
 ghost use Rattle.costs.proofs.Numbers.{number_order};
 ghost use Rattle.kinds.specs.GateMastLaws.{nested, hull};
-ghost use Rattle.std.proofs.Common.{rules};
 
 use crate::distance_squared;
-use costs::{Cost, Mast, Masted, Span, Whole};
+use costs::{Mast, Masted, Numeric, Span};
 use course::{Course, Gate};
 
 // The kind: four times the least, over the gates of a group, of the greatest squared distance to one of its gates.
@@ -29,16 +28,10 @@ pub fn best_gate(course: &Course, first: usize, last: usize) -> Option<(u64, usi
     Some(best_of_span(&Span::of(course, first, last)?))
 }
 
-impl Cost for GateMast {
-    type Value = u64;
+impl Numeric for GateMast {
+    ghost span_number = { λ _. gate_mast_span };
 
-    ghost not_greater = { nat_le };
-
-    ghost span_cost = { λ _. gate_mast_span };
-
-    ghost group_cost = { λ _. gate_mast_group };
-
-    ghost reads_as = { λ _ n. n };
+    ghost group_number = { λ _. gate_mast_group };
 
     ghost lawful = { record {
       order = number_order;
@@ -47,22 +40,10 @@ impl Cost for GateMast {
       hull = λ _ gs ps k h. hull gs k ps h;
     } };
 
-    fn span_cost(&self, span: &Span) -> u64 {
+    fn number(&self, span: &Span) -> u64 {
         let (cost, _) = best_of_span(span);
         cost
     }
-
-    fn not_greater(a: u64, b: u64) -> bool {
-        a <= b
-    }
-
-    fn read(&self, n: u64) -> u64 {
-        n
-    }
-}
-
-impl Whole for GateMast {
-    ghost usual = { Prim.search rules };
 }
 
 impl Masted for GateMast {

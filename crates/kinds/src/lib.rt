@@ -6,8 +6,6 @@ ghost use Rattle.course.specs.Distances.{apart};
 
 use course::Gate;
 
-// Each kind writes its own order and reading of whole numbers: an impl for all kinds of a trait of `costs` is refused,
-// and no macro may write a trait's ghost members.
 mod free_mast;
 mod gate_mast;
 mod trench;

@@ -1,14 +1,13 @@
 // A trench from the topmost gate of a group to its lowest.
-ghost use Rattle.std.specs.Prelude.{◌≡◌, ◌^◌, ◌<◌, nat_le};
+ghost use Rattle.std.specs.Prelude.{◌≡◌, ◌^◌, ◌<◌};
 ghost use Rattle.course.specs.View.{gates_of};
 ghost use Rattle.costs.specs.Groups.{of_span, EveryGroup, Told};
 ghost use Rattle.kinds.specs.Trench.{trench, trench_span, trench_group};
 ghost use Rattle.kinds.specs.Trenches.{trench_within};
 ghost use Rattle.costs.proofs.Ends.{ends_laws};
-ghost use Rattle.std.proofs.Common.{rules};
 
 use crate::{farther, higher};
-use costs::{Cost, Span, Whole};
+use costs::{Numeric, Span};
 use course::{Course, Gate};
 
 // The kind: the length of the trench from the topmost gate of a group to its lowest.
@@ -25,34 +24,16 @@ pub fn trench_cost(course: &Course, first: usize, last: usize) -> Option<u64>
     Some(span_length(&Span::of(course, first, last)?))
 }
 
-impl Cost for Trench {
-    type Value = u64;
+impl Numeric for Trench {
+    ghost span_number = { λ _. trench_span };
 
-    ghost not_greater = { nat_le };
-
-    ghost span_cost = { λ _. trench_span };
-
-    ghost group_cost = { λ _. trench_group };
-
-    ghost reads_as = { λ _ n. n };
+    ghost group_number = { λ _. trench_group };
 
     ghost lawful = { ends_laws trench trench_within };
 
-    fn span_cost(&self, span: &Span) -> u64 {
+    fn number(&self, span: &Span) -> u64 {
         span_length(span)
     }
-
-    fn not_greater(a: u64, b: u64) -> bool {
-        a <= b
-    }
-
-    fn read(&self, n: u64) -> u64 {
-        n
-    }
-}
-
-impl Whole for Trench {
-    ghost usual = { Prim.search rules };
 }
 
 // The length of a trench from one gate to another.
