@@ -18,6 +18,7 @@ pub enum Refusal {
     Beside(u8),
 }
 
+// A `match`, since one refusal carries a value: an enum with such a variant cannot be cast to its number.
 impl Refusal {
     pub fn number(self) -> u8
         ensures numbered { result ≡ refusal_number self }

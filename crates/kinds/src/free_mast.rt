@@ -57,7 +57,7 @@ fn ends_apart(span: &Span) -> u64
     distance_squared(span.top(), span.bottom()) as u64
 }
 
-// The mast halfway between the ends of a span.
+// The mast halfway between the ends of a span. No `From` of two gates, which would have to take gates out of range too.
 fn halfway(span: &Span) -> Mast
     ensures between_the_ends { result ≡ free_mast_mast span.now.gates.now span.now.first span.now.last }
 {

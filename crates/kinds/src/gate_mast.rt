@@ -100,7 +100,7 @@ fn best_of_span(span: &Span) -> (u64, usize)
     (4 * farthest as u64, y)
 }
 
-// The place of a gate, doubled.
+// The place of a gate, doubled. No `From<Gate>`, which would have to take a gate out of range too.
 fn doubled(gate: Gate) -> Mast
     requires ranged { in_range gate ≡ true }
     ensures twice { result ≡ doubled gate }

@@ -96,7 +96,7 @@ fn height_fits(height: i32) -> bool
     height >= -(1 << 19) && height < 1 << 19
 }
 
-// The 20 bits of a height in two's complement.
+// The 20 bits of a height in two's complement; no conversion of the library's is of 20 bits.
 fn height_bits(height: i32) -> u64
     requires in_range { in_twos height ≡ true }
     ensures value { result ≡ twos height }

@@ -8,6 +8,7 @@ pub enum StepFault {
     BadLimits,
 }
 
+// A `match` as the other faults have: a cast of the lone variant is no plainer.
 impl StepFault {
     pub fn number(self) -> u8
         ensures numbered { result ≡ step_fault_number self }
