@@ -22,7 +22,7 @@ fn farther(a: Gate, b: Gate) -> i64
     i64::from(a.distance) - i64::from(b.distance)
 }
 
-// How much higher one gate is than another. One function for both fields is no plainer: they differ in type and in name.
+// How much higher one gate is than another. One function for both fields is no plainer: their types differ.
 fn higher(a: Gate, b: Gate) -> i64
     ensures difference { result ≡ a.height -ℤ b.height }
     ensures short { unsigned_abs result < 2 ^ 32 }

@@ -10,7 +10,7 @@ use crate::fault::{BitFault, OrderFault};
 use crate::kind::Kind;
 use crate::order::{Order, Place};
 
-// A number of 20 bits in two's complement. A rule of the project: its sign is extended here; the library knows no 20 bits.
+// A number of 20 bits in two's complement. A rule of the project: the sign is extended in the reader itself.
 fn sign_extended(bits: u32) -> i32
     requires narrow { bits < 2 ^ 20 }
     ensures value { result ≡ signed bits }
