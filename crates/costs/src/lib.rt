@@ -47,7 +47,7 @@ pub trait Cost {
         Some(self.span_cost(&Span::of(course, first, last)?))
     }
 
-    // Whether `a` is not greater than `b`.
+    // Whether `a` is not greater than `b`. No bound `Ord` on `Value`, which would ask more of a kind.
     fn not_greater(a: Self::Value, b: Self::Value) -> bool
         ensures compared { result ≡ not_greater a b };
 

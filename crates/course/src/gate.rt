@@ -13,7 +13,8 @@ pub const MIN_HEIGHT: i32 = -524_288;
 // The greatest height against the finish, in centimetres.
 pub const MAX_HEIGHT: i32 = 524_287;
 
-// A gate: its number, its distance from the start and its height against the finish, both in centimetres.
+// A gate: its number, its distance from the start and its height against the finish, both in centimetres. The orders of
+// a head have a struct like it of their own: neither crate stands above the other.
 #[derive(Clone, Copy, Debug, Default, PartialEq, Eq)]
 pub struct Gate {
     pub number: u8,
@@ -26,7 +27,7 @@ impl Gate {
     pub fn is_in_range(self) -> bool
         ensures within_the_bounds { result ≡ in_range self }
     {
-        self.distance <= MAX_DISTANCE && self.height >= MIN_HEIGHT && self.height <= MAX_HEIGHT
+        self.distance <= MAX_DISTANCE && (MIN_HEIGHT..=MAX_HEIGHT).contains(&self.height)
     }
 
     // Whether this gate is nearer the start and higher.

@@ -30,7 +30,8 @@ fn free_mast_steps() -> Steps<FreeMast>
     }
 }
 
-// The line of a span's cost and its mast under a kind.
+// The line of a span's cost and its mast under a kind. The name belongs to these lines: as a constant of each kind it
+// would be no plainer.
 fn masted_line<C: Masted>(
     heap: Global,
     name: &str,

@@ -6,6 +6,8 @@ ghost use Rattle.course.specs.Distances.{apart};
 
 use course::Gate;
 
+// The public cost of each kind takes positions and says more than `Cost::span`, the bound 2^43 among it: as a law of all
+// numeric kinds the bound would be said once more, and asked of every other kind.
 mod free_mast;
 mod gate_mast;
 mod trench;
@@ -22,7 +24,8 @@ fn farther(a: Gate, b: Gate) -> i64
     i64::from(a.distance) - i64::from(b.distance)
 }
 
-// How much higher one gate is than another. One function for both fields is no plainer: their types differ.
+// How much higher one gate is than another. A rule of the project: differences have their sign until they are squared,
+// so no `abs_diff`; and one function for both fields is no plainer.
 fn higher(a: Gate, b: Gate) -> i64
     ensures difference { result ≡ a.height -ℤ b.height }
     ensures short { unsigned_abs result < 2 ^ 32 }

@@ -15,7 +15,7 @@ use std::io::Read;
 // How many bytes a head takes as one stream.
 pub const LONGEST_STREAM: usize = 4096;
 
-// The last line, of a stream with so many orders or with a fault.
+// The last line, of a stream with so many orders or with a fault. No `Display` of a fault: it has no text but this.
 fn closing_line(heap: Global, count: Result<usize, StreamFault>) -> Result<String, AllocError>
     ensures text { IfOk result (λ s. string_bytes s ≡ closing_line count) }
 {

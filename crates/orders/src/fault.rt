@@ -64,7 +64,7 @@ impl From<StreamFault> for ReadFault {
     }
 }
 
-// The numbers stand in a `match` each: discriminants are no plainer, as faults with fields cannot be cast.
+// The numbers stand in a `match` each, all alike: a fault that holds another cannot be cast to a discriminant.
 impl BitFault {
     pub fn number(self) -> u8
         ensures numbered { result ≡ bit_fault_number self }

@@ -60,9 +60,7 @@ impl Iterator for Orders<'_> {
 
     #[tactic(auto, using(crate::proofs::Streams::read_size, crate::proofs::Streams::parse_stops))]
     fn next(&mut self) -> Option<(usize, Order)> {
-        let Ok((order, rest)) = read_order(self.rest) else {
-            return None;
-        };
+        let (order, rest) = read_order(self.rest).ok()?;
         let byte = self.byte;
         self.index += 1;
         self.byte += self.rest.len() - rest.len();

@@ -32,12 +32,11 @@ impl TryFrom<u8> for Kind {
     }
 }
 
-impl Kind {
-    // The number that stands for the kind.
-    pub(crate) fn code(self) -> u64
-        ensures value { result ≡ code_of self }
-    {
-        self as u64
+impl From<Kind> for u64 {
+    ghost from_gives = { λ kind code. code ≡ code_of kind };
+
+    fn from(kind: Kind) -> u64 {
+        kind as u64
     }
 }
 

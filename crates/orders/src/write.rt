@@ -25,7 +25,7 @@ impl Place {
         requires fitting { place_fits self.now ≡ true }
         ensures value { result ≡ appended 0 (place_fields (code_of kind) self.now) }
     {
-        let front = append(kind.code(), 8, u64::from(self.gate));
+        let front = append(u64::from(kind), 8, u64::from(self.gate));
         let front = append(front, 20, u64::from(self.distance));
         let front = append(front, 20, height_bits(self.height));
         append(front, 5, 0)
@@ -64,9 +64,9 @@ impl Order {
         let kind = self.kind();
         match self {
             Order::Set(place) | Order::Move(place) => place.as_number(kind),
-            Order::Lift { gate } => append(append(kind.code(), 8, u64::from(*gate)), 5, 0),
-            Order::PlanFor { zones } => append(append(kind.code(), 6, u64::from(*zones)), 7, 0),
-            Order::PlanWithin { limit } => append(append(kind.code(), 43, *limit), 2, 0),
+            Order::Lift { gate } => append(append(u64::from(kind), 8, u64::from(*gate)), 5, 0),
+            Order::PlanFor { zones } => append(append(u64::from(kind), 6, u64::from(*zones)), 7, 0),
+            Order::PlanWithin { limit } => append(append(u64::from(kind), 43, *limit), 2, 0),
         }
     }
 
@@ -93,20 +93,16 @@ fn number_fits(width: u32, value: u64) -> bool
 fn height_fits(height: i32) -> bool
     ensures value { result ≡ in_twos height }
 {
-    height >= -(1 << 19) && height < 1 << 19
+    (-(1 << 19)..1 << 19).contains(&height)
 }
 
-// The 20 bits of a height in two's complement; no conversion of the library's is of 20 bits.
+// The 20 bits of a height in two's complement.
 fn height_bits(height: i32) -> u64
     requires in_range { in_twos height ≡ true }
     ensures value { result ≡ twos height }
     ensures small { result < 2 ^ 20 }
 {
-    if height < 0 {
-        (height + (1 << 20)) as u64
-    } else {
-        height as u64
-    }
+    height.rem_euclid(1 << 20) as u64
 }
 
 // The bits so far as a number, with one more field after them.

@@ -68,7 +68,8 @@ impl<T: Copy, const N: usize> Row<T, N> {
         &self.cells[..self.count]
     }
 
-    // Puts in an item at index `at`, if there is room and `at` is not past the end.
+    // Puts in an item at index `at`, if there is room and `at` is not past the end. An `Option`, as of `checked_add`:
+    // there is nothing to tell of why it was not done.
     #[tactic(auto, using(crate::proofs::Shifts::inserted_by_copy))]
     pub fn insert(&mut self, at: usize, item: T) -> Option<()>
         ensures done_or_not { result ≡ insert_answer N self.old.items at }

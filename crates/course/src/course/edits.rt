@@ -68,7 +68,7 @@ impl Course {
         if gates.len() >= MAX_GATES {
             return Err(Refusal::Full);
         }
-        is_clear(gates, gate)
+        check_clear(gates, gate)
     }
 
     // Whether a gate may be given a new place.
@@ -82,7 +82,7 @@ impl Course {
         if !is_set(gates, gate.number) {
             return Err(Refusal::NotSet);
         }
-        is_clear(gates, gate)
+        check_clear(gates, gate)
     }
 
     // Puts a gate that may be added where it belongs.
@@ -113,13 +113,10 @@ fn is_set(gates: &[Gate], number: u8) -> bool
 }
 
 // Whether no gate, other than the one with the number of `gate`, is neither above nor below it.
-fn is_clear(gates: &[Gate], gate: Gate) -> Result<(), Refusal>
+fn check_clear(gates: &[Gate], gate: Gate) -> Result<(), Refusal>
     ensures clear_or_beside { result ≡ answer (beside_refusal (beside gate gates.now)) }
 {
-    match first_beside(gates, gate) {
-        Some(number) => Err(Refusal::Beside(number)),
-        None => Ok(()),
-    }
+    first_beside(gates, gate).map_or(Ok(()), |number| Err(Refusal::Beside(number)))
 }
 
 // The number of the topmost gate, other than the one with the number of `gate`, that is neither above nor below it.
