@@ -5,6 +5,7 @@ ghost use Rattle.hills.specs.Hills.{figures_of_h, numbers_of_h};
 use crate::figures::Figures;
 
 // The figures of hill H.
+#[tactic(auto, unfolding(costs::specs::Groups::positions, kinds::specs::Extremes::greatest, kinds::specs::Extremes::least, kinds::specs::Extremes::first_least))]
 pub fn figures_of_h() -> Figures
     ensures as_the_definitions_say { result ≡ figures_of_h }
     ensures these_numbers { result ≡ numbers_of_h }

@@ -1,15 +1,7 @@
-use Rattle.std.proofs.Common.{◌≡◌, ◌++◌, string_bytes, ap, ◌∙◌, arith}
-use Rattle.costs.specs.Groups.{span}
-use Rattle.hills.specs.Text.{each_text}
+use Rattle.std.proofs.Common.{◌≡◌, string_bytes, ◌∙◌, arith}
 use Rattle.hills.proofs.Texts.{along_more, along_all}
 use Rattle.hills.proofs.spans.each_position.Goals.{else-loop-position-test, then-loop-position-test+in_ok-words+in_ok-push_str+else-position-to}
 use Rattle.hills.proofs.spans.each_position.Goals as goal
-
-pub loop-position-init : goal.loop-position-init
-loop-position-init g c = λ words h. record {
-  begun = omega arith;
-  so_far = record { whole = ap (λ t. t ++ each_text words (span c.args.from c.args.to)) c.new-all.ensures.bytes };
-}
 
 pub loop-position-preserved : goal.loop-position-preserved
 loop-position-preserved g c = λ words h.
