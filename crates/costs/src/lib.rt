@@ -40,7 +40,8 @@ pub trait Cost {
     fn span_cost(&self, span: &Span) -> Self::Value
         ensures cost_of_it { result ≡ span_cost self.now span.now.gates.now span.now.first span.now.last };
 
-    // The cost of the span from `first` to `last`, and none where this is no span of the course.
+    // The cost of the span from `first` to `last`, and none where this is no span of the course. By positions: to ask
+    // for a `Span` would ask more of callers.
     fn span(&self, course: &Course, first: usize, last: usize) -> Option<Self::Value>
         ensures cost_of_the_span { result ≡ of_span (gates_of course.now) first last (span_cost self.now (gates_of course.now) first last) }
     {
@@ -74,7 +75,8 @@ pub trait Masted: Cost {
         ensures mast_of_it { result ≡ mast_of self.now span.now.gates.now span.now.first span.now.last }
         ensures reaches_every_gate { ReachesAll Self.Cost.not_greater (Self.Cost.reads_as self.now) (Self.Cost.span_cost self.now span.now.gates.now span.now.first span.now.last) span.now.gates.now span.now.first span.now.last (Some result) };
 
-    // The mast of the span from `first` to `last`, and none where this is no span of the course.
+    // The mast of the span from `first` to `last`, and none where this is no span of the course. By positions: to ask
+    // for a `Span` would ask more of callers.
     fn mast(&self, course: &Course, first: usize, last: usize) -> Option<Mast>
         ensures mast_of_the_span { result ≡ of_span (gates_of course.now) first last (mast_of self.now (gates_of course.now) first last) }
         ensures reaches_every_gate { ReachesAll Self.Cost.not_greater (Self.Cost.reads_as self.now) (Self.Cost.span_cost self.now (gates_of course.now) first last) (gates_of course.now) first last result }

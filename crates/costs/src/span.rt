@@ -82,7 +82,7 @@ impl fmt::Display for Span<'_> {
     }
 }
 
-// Whether the positions from `first` to `last` are a span of the course.
+// Whether the positions from `first` to `last` are a span of the course. By positions: a `Span` is one already.
 pub fn is_span(course: &Course, first: usize, last: usize) -> bool
     ensures positions_of_the_course { result ≡ is_span (gates_of course.now) first last }
 {

@@ -14,7 +14,7 @@ pub const MIN_HEIGHT: i32 = -524_288;
 pub const MAX_HEIGHT: i32 = 524_287;
 
 // A gate: its number, its distance from the start and its height against the finish, both in centimetres. The orders of
-// a head have a struct like it of their own: neither crate stands above the other.
+// a head have a struct like it: one for both would need a crate of its own and one name for both numbers, no plainer.
 #[derive(Clone, Copy, Debug, Default, PartialEq, Eq)]
 pub struct Gate {
     pub number: u8,

@@ -20,7 +20,7 @@ pub fn hill_h() -> Course
     ])
 }
 
-// Hill V. It differs from hill H in its gates alone, which each states: one function of both would have to choose.
+// Hill V. It differs from hill H in its gates alone, which each states: one function of both would choose, no plainer.
 #[tactic(auto, using(crate::proofs::Adding::hill_v_added))]
 pub fn hill_v() -> Course
     ensures gates_of_v { gates_of result ≡ hill_v }

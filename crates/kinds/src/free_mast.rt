@@ -15,7 +15,8 @@ use course::Course;
 #[derive(Clone, Copy)]
 pub struct FreeMast;
 
-// The cost of the span from `first` to `last`, and none where this is no span of the course.
+// The cost of the span from `first` to `last`, and none where this is no span of the course. By positions: to ask for a
+// `Span` would ask more of callers.
 #[tactic(auto, using(crate::proofs::Groups::free_mast_below, crate::proofs::Groups::free_mast_least))]
 pub fn free_mast_cost(course: &Course, first: usize, last: usize) -> Option<u64>
     ensures squared_distance_of_the_ends { result ≡ of_span (gates_of course.now) first last (free_mast_span (gates_of course.now) first last) }

@@ -17,7 +17,7 @@ use course::{Course, Gate};
 pub struct GateMast;
 
 // The least cost of the span from `first` to `last` and the gate for its mast, the topmost of equally good ones, and
-// none where this is no span of the course.
+// none where this is no span of the course. By positions: to ask for a `Span` would ask more of callers.
 #[tactic(auto, using(crate::proofs::Groups::gate_mast_below))]
 pub fn best_gate(course: &Course, first: usize, last: usize) -> Option<(u64, usize)>
     ensures least_cost_and_its_gate { result ≡ of_span (gates_of course.now) first last (gate_mast_best (gates_of course.now) first last) }

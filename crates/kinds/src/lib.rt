@@ -6,7 +6,7 @@ ghost use Rattle.course.specs.Distances.{apart};
 
 use course::Gate;
 
-// The public cost of each kind takes positions and says more than `Cost::span`, the bound 2^43 among it: as a law of all
+// Each kind has a public cost by positions, which says more than `Cost::span`, the bound 2^43 among it: as a law of all
 // numeric kinds the bound would be said once more, and asked of every other kind.
 mod free_mast;
 mod gate_mast;

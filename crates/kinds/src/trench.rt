@@ -14,7 +14,8 @@ use course::{Course, Gate};
 #[derive(Clone, Copy)]
 pub struct Trench;
 
-// The cost of the span from `first` to `last`, and none where this is no span of the course.
+// The cost of the span from `first` to `last`, and none where this is no span of the course. By positions: to ask for a
+// `Span` would ask more of callers.
 #[tactic(auto, using(crate::proofs::Groups::trench_below))]
 pub fn trench_cost(course: &Course, first: usize, last: usize) -> Option<u64>
     ensures from_end_to_end { result ≡ of_span (gates_of course.now) first last (trench_span (gates_of course.now) first last) }

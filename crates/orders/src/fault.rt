@@ -64,7 +64,8 @@ impl From<StreamFault> for ReadFault {
     }
 }
 
-// The numbers stand in a `match` each, all alike: a fault that holds another cannot be cast to a discriminant.
+// The numbers of the faults below stand in a `match` each, all alike, but that of `StreamFault`, which asks its cause:
+// a fault that holds another cannot be cast to a discriminant.
 impl BitFault {
     pub fn number(self) -> u8
         ensures numbered { result ≡ bit_fault_number self }

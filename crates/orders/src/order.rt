@@ -5,6 +5,8 @@ ghost use Rattle.orders.specs.Texts.{place_text, order_text};
 use std::fmt;
 
 // Where a gate is put: its distance along the course and its height, in whole centimetres.
+// The gates of a course are a struct like it: one for both would need a crate of its own and one name for `gate` and
+// `number`, and is no plainer.
 #[derive(Clone, Copy, Debug, PartialEq, Eq)]
 pub struct Place {
     pub gate: u8,
