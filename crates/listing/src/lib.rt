@@ -56,15 +56,80 @@ pub fn list_stream(heap: Global, bytes: &[u8]) -> Result<String, AllocError>
     Ok(text)
 }
 
+// Fills a buffer from an input, and says how many bytes came before its end. Not `read_to_end`: each
+// read gets all the room that is left, since an input of packets drops what has no room, and each
+// error is answered at once, also an interruption.
+fn fill_from<R: Read>(input: &mut R, buffer: &mut [u8]) -> io::Result<usize>
+    ensures bounded { IfOk result (λ n. n ≤ length buffer.old) }
+    ensures first_bytes { IfSome (R.remaining input.old) (λ xs. IfOk result (λ n. take n buffer.new ≡ take (length buffer.old) xs)) }
+{
+    let mut len = 0;
+    while len < buffer.len() {
+        let count = input.read(&mut buffer[len..])?;
+        if count == 0 {
+            break;
+        }
+        len += count;
+    }
+    Ok(len)
+}
+
 // Reads an input to its end, or to one byte more than the longest stream.
 pub fn read_input<R: Read>(heap: Global, input: &mut R) -> io::Result<Vec<u8>>
     ensures bounded { IfOk result (λ v. vec_len v ≤ longest + 1) }
     ensures first_bytes { IfSome (R.remaining input.old) (λ xs. IfOk result (λ v. v.items ≡ take (longest + 1) xs)) }
 {
-    let most = LONGEST_STREAM + 1;
-    let mut bytes = Vec::new(heap);
-    input.take(most as u64).read_to_end(&mut bytes)?;
-    // `take` promises its limit only where the input's bytes are known.
-    bytes.truncate(most);
+    let mut bytes = vec![in heap; 0u8; LONGEST_STREAM + 1]?;
+    let len = fill_from(input, &mut bytes)?;
+    bytes.truncate(len);
     Ok(bytes)
+}
+
+#[cfg(test)]
+mod tests {
+    use super::*;
+    use std::io::ErrorKind;
+    use std::test::Fail;
+
+    // Answers each read by the next of these: a packet of so many bytes, less those that have no room,
+    // or an interruption. After them it is at its end.
+    #[derive(Drop)]
+    struct Packets<'a> {
+        answers: &'a [Option<usize>],
+    }
+
+    impl Read for Packets<'_> {
+        fn read(&mut self, buf: &mut [u8]) -> io::Result<usize> {
+            let Some((answer, rest)) = self.answers.split_first() else {
+                return Ok(0);
+            };
+            self.answers = rest;
+            let Some(len) = *answer else {
+                return Err(ErrorKind::Interrupted.into());
+            };
+            let count = len.min(buf.len());
+            buf[..count].fill(7);
+            Ok(count)
+        }
+    }
+
+    #[test]
+    fn hands_out_an_interruption(rt: HostRuntime) {
+        let mut input = Packets {
+            answers: &[Some(3), None, Some(4)],
+        };
+        let fault = read_input(rt.alloc(), &mut input).err();
+        assert_eq!(rt; fault.map(|e| e.kind()), Some(ErrorKind::Interrupted));
+    }
+
+    #[test]
+    fn reads_whole_packets_until_the_room_is_full(rt: HostRuntime) -> Result<(), Fail> {
+        for (answers, len) in [([Some(600), Some(700)], 1300), ([Some(5000), None], 4097)] {
+            let mut input = Packets { answers: &answers };
+            let bytes = read_input(rt.alloc(), &mut input)?;
+            assert_eq!(rt; bytes.len(), len);
+            assert!(rt; bytes.iter().all(|b| *b == 7));
+        }
+        Ok(())
+    }
 }

@@ -1,13 +1,23 @@
-use Rattle.std.proofs.Common.{◌≡◌, ℕ, List, [], ◌++◌, take, Option, Some, None, ap, ◌∙◌, arith}
-use Rattle.std.specs.Option.{option_map}
-use Rattle.std.specs.Prelude.{IfSome}
-use Rattle.std.proofs.lemmas.List.{take-take}
+use Rattle.std.proofs.Common.{◌≡◌, ℕ, List, ◌++◌, take, length, Option, Some, None, ap, ◌∙◌, arith}
+use Rattle.std.specs.Prelude.{IfSome, IfOk, Result}
+use Rattle.std.specs.Result.{IsErr}
+use Rattle.std.proofs.lemmas.List.{take_at}
+use Rattle.std.proofs.lemmas.Option.{IfSome_then}
+use Rattle.std.proofs.lemmas.Result.{IfOk-from_err}
 use Rattle.listing.proofs.read_input.Goals as goal
 
--- what is kept of the bytes up to a limit
-first_of : (n m : ℕ) (o : Option (List ℕ)) (new read kept : List ℕ) → m ≡ n → new ≡ [] → IfSome (option_map (take m) o) (λ xs. read ≡ new ++ xs) → kept ≡ take n read → IfSome o (λ xs. kept ≡ take n xs)
-first_of n m None new read kept limit none all e = tt
-first_of n m (Some xs) new read kept limit none all e = e ∙ ap (take n) (rw (limit, none) at all) ∙ take-take n n xs (omega arith)
+-- an error answers no bytes
+of_err : {T E : Type 0} (o : Option (List ℕ)) (r : Result T E) (P : List ℕ → T → Type 0) → IsErr r → IfSome o (λ xs. IfOk r (P xs))
+of_err None r P e = tt
+of_err (Some xs) r P e = IfOk-from_err r (P xs) e
+
+-- the first bytes of a buffer that a vector held whole
+kept : (o : Option (List ℕ)) (limit room len n : ℕ) (buffer rest items : List ℕ) → room ≡ limit → len ≡ room → length buffer ≡ len → IfSome o (λ xs. take n buffer ≡ take len xs) → items ≡ take n (take room (buffer ++ rest)) → IfSome o (λ xs. items ≡ take limit xs)
+kept o limit room len n buffer rest items whole same long first e =
+    IfSome_then o first (λ xs h. e ∙ ap (take n) (take_at buffer rest room (omega arith)) ∙ h ∙ ap (λ m. take m xs) (same ∙ whole))
+
+pub returns-in_err-len-clause-first_bytes : goal.returns-in_err-len-clause-first_bytes
+returns-in_err-len-clause-first_bytes g c = of_err _ _ _ c.from_residual-in_err-len.ensures.0
 
 pub returns-clause-first_bytes : goal.returns-clause-first_bytes
-returns-clause-first_bytes g c = let all = rw c.take.ensures.inner at c.in_ok-read_to_end.ensures.bytes in first_of 4097 _ _ _ _ _ c.take.ensures.limit c.new-bytes.ensures.items all c.truncate.ensures.items
+returns-clause-first_bytes g c = kept _ 4097 _ _ _ _ _ _ c.in_ok-bytes.ensures.len c.deref_mut.ensures.len c.fill_from.auto.buffer c.in_ok-len.ensures.first_bytes c.truncate.ensures.items
