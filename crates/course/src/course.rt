@@ -1,4 +1,5 @@
 // A course: at most 200 gates, from the top down.
+ghost use Rattle.rows.specs.Rows.{items_of};
 ghost use Rattle.course.specs.Gates.{IsCourse};
 
 use crate::gate::Gate;
@@ -14,5 +15,5 @@ pub const MAX_GATES: usize = 200;
 #[derive(Clone, Copy)]
 pub struct Course {
     gates: Row<Gate, MAX_GATES>,
-    ghost course: { IsCourse gates.items },
+    ghost course: { IsCourse (items_of gates) },
 }

@@ -1,23 +1,17 @@
 -- What a row holds, and what its edits answer and leave. Assumes nothing.
-use Rattle.std.specs.Prelude.{ℕ, Bool, ◌&&◌, cond, List, length, nat_le, nat_lt, Some, None, Option, refl}
+use Rattle.std.specs.Prelude.{ℕ, Bool, ◌&&◌, cond, List, length, take, nat_le, nat_lt, Some, None, Option}
 use Rattle.std.specs.List.{insert}
-use Rattle.std.specs.Coded.{Coded, code_by, coded×, coded_list}
-
--- the items, in order, and what is in the cells that are not in use
-pub record Row (T : Type 0) : Type 0 where
-  pub items : List T
-  pub spare : List T
-
--- a row is stored as the pair of its lists
-abbrev pub row_code : {T : Type 0} → Coded T → Coded (Row T)
-row_code {T} code =
-    code_by (List T × List T) (coded× (coded_list code) (coded_list code)) (λ r. (r.items, r.spare)) (λ p. record { items = p.0; spare = p.1 }) (λ _. refl)
+use Rattle.rows.specs.declared.row.Row.{Row}
 
 module _ {T : Type 0} where
+  -- the items of a row, in order
+  abbrev pub items_of : {n : ℕ} → Row T n → List T
+  items_of r = take r.count r.cells
+
   -- the items of a row that was made, if one was
-  abbrev pub items_made : Option (Row T) → Option (List T)
+  abbrev pub items_made : {n : ℕ} → Option (Row T n) → Option (List T)
   items_made None = None
-  items_made (Some r) = Some r.items
+  items_made (Some r) = Some (items_of r)
 
   -- the items, if there are at most n
   abbrev pub fitting : ℕ → List T → Option (List T)

@@ -1,43 +1,42 @@
 // A row: at most N items, kept in place.
-ghost use Rattle.std.specs.Prelude.{◌≡◌, ◌≤◌, [], length, slice_get};
-ghost use Rattle.std.specs.List.{remove};
-ghost use Rattle.rows.specs.Rows.{fitting, items_made, insert_answer, after_insert};
+ghost use Rattle.std.specs.Prelude.{◌≡◌, ◌≤◌, length};
 
-use std::marker::Model;
+use std::alloc::AllocError;
 
 // At most N items, one after another, and then cells that are not in use.
-// It stands in place of the library's ArrayVec, which is not Copy.
-#[derive(Clone, Copy)]
+// It stands in place of the library's ArrayVec, which is not Copy. It has no model: a struct that holds a struct with
+// one is not copied where it is passed by value and used again.
 pub struct Row<T, const N: usize> {
     cells: [T; N],
     count: usize,
+    ghost few: { count ≤ N },
+    ghost wide: { length cells ≡ N },
 }
 
-impl<T, const N: usize> Model for Row<T, N> {
-    ghost use Rattle.std.specs.Prelude.{◌≡◌, ◌≤◌, ◌++◌, length, take, drop};
-    ghost use Rattle.std.proofs.Common.{arith, take-append-drop, length-take-le};
-    ghost use Rattle.rows.specs.Rows.{Row as Items, row_code};
+// It clones each cell. A generic struct with ghost fields cannot derive this.
+impl<T: Clone, const N: usize> Clone for Row<T, N> {
+    ghost is_clone = { λ r s. ⟦<[T; N] as Clone>⟧.is_clone r.cells s.cells × (s.count ≡ r.count) };
 
-    ghost Value = { Items T };
+    ghost is_infallible = { λ r. ⟦<[T; N] as Clone>⟧.is_infallible r.cells };
 
-    ghost coded = { row_code T.code };
-
-    ghost view = { λ r. record { items = take r.count r.cells; spare = drop r.count r.cells } };
-
-    ghost invariant = { λ r. (r.count ≤ N) × (length r.cells ≡ N) };
-
-    ghost inverse = { λ v. record { cells = v.items ++ v.spare; count = length v.items } };
-
-    ghost inverse_ok = { λ r h i. record {
-      cells = take-append-drop r.count r.cells i;
-      count = length-take-le r.count r.cells (omega (arith, h.0, h.1)) i;
-    } };
+    fn clone(&self) -> Result<Self, AllocError> {
+        Ok(Row {
+            cells: self.cells.clone()?,
+            count: self.count,
+        })
+    }
 }
+
+impl<T: Copy, const N: usize> Copy for Row<T, N> {}
 
 impl<T: Copy, const N: usize> Row<T, N> {
+    ghost use Rattle.std.specs.Prelude.{[], slice_get};
+    ghost use Rattle.std.specs.List.{remove};
+    ghost use Rattle.rows.specs.Rows.{items_of, items_made, fitting, insert_answer, after_insert};
+
     // A row of no items, with `blank` in its cells.
     pub fn new(blank: T) -> Self
-        ensures no_items { result.items ≡ [] }
+        ensures no_items { items_of result ≡ [] }
     {
         Row {
             cells: [blank; N],
@@ -62,7 +61,7 @@ impl<T: Copy, const N: usize> Row<T, N> {
 
     // The items, in order.
     pub fn as_slice(&self) -> &[T]
-        ensures items { result.now ≡ self.now.items }
+        ensures items { result.now ≡ items_of self.now }
         ensures few { length result.now ≤ N }
     {
         &self.cells[..self.count]
@@ -72,8 +71,8 @@ impl<T: Copy, const N: usize> Row<T, N> {
     // there is nothing to tell of why it was not done.
     #[tactic(auto, using(crate::proofs::Shifts::inserted_by_copy))]
     pub fn insert(&mut self, at: usize, item: T) -> Option<()>
-        ensures done_or_not { result ≡ insert_answer N self.old.items at }
-        ensures items_after { self.new.items ≡ after_insert N self.old.items at item }
+        ensures done_or_not { result ≡ insert_answer N (items_of self.old) at }
+        ensures items_after { items_of self.new ≡ after_insert N (items_of self.old) at item }
     {
         let count = self.count;
         if count >= N || at > count {
@@ -88,8 +87,8 @@ impl<T: Copy, const N: usize> Row<T, N> {
     // Takes out the item at index `at`, if there is one.
     #[tactic(auto, using(crate::proofs::Shifts::removed_by_copy))]
     pub fn remove(&mut self, at: usize) -> Option<T>
-        ensures item { result ≡ slice_get self.old.items at }
-        ensures items_after { self.new.items ≡ remove self.old.items at }
+        ensures item { result ≡ slice_get (items_of self.old) at }
+        ensures items_after { items_of self.new ≡ remove (items_of self.old) at }
     {
         let count = self.count;
         let item = *self.cells[..count].get(at)?;

@@ -1,4 +1,5 @@
 // A table of limits: from 1 to 8 of them, each greater than the one before.
+ghost use Rattle.rows.specs.Rows.{items_of};
 ghost use Rattle.steps.specs.Limits.{IsTable};
 
 use rows::Row;
@@ -15,5 +16,5 @@ pub const MAX_LIMIT: u64 = 8_796_093_022_207;
 #[derive(Clone, Copy)]
 pub struct Limits {
     limits: Row<u64, MAX_LIMITS>,
-    ghost table: { IsTable limits.items },
+    ghost table: { IsTable (items_of limits) },
 }
