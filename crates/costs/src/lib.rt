@@ -36,16 +36,16 @@ pub trait Cost {
     // The value that a whole number reads as.
     ghost reads_as: { Self → ℕ → Self.Value };
 
-    // The cost of a span.
-    fn span_cost(&self, span: &Span) -> Self::Value
-        ensures cost_of_it { result ≡ span_cost self.now span.now.gates.now span.now.first span.now.last };
-
     // The cost of the span from `first` to `last`, and none where this is no span of the course. By positions: to ask
     // for a `Span` would ask more of callers.
     fn span(&self, course: &Course, first: usize, last: usize) -> Option<Self::Value>
-        ensures cost_of_the_span { result ≡ of_span (gates_of course.now) first last (span_cost self.now (gates_of course.now) first last) }
+        ensures cost_of_the_span { result ≡ of_span (gates_of course.now) first last (span_cost self.now (gates_of course.now) first last) };
+
+    // The cost of a span. A kind may give its own, which need not test the positions again.
+    fn span_cost(&self, span: &Span) -> Self::Value
+        ensures cost_of_it { result ≡ span_cost self.now span.now.gates.now span.now.first span.now.last }
     {
-        Some(self.span_cost(&Span::of(course, first, last)?))
+        self.span(span.course(), span.first(), span.last()).unwrap()
     }
 
     // Whether `a` is not greater than `b`. No bound `Ord` on `Value`, which would ask more of a kind.
@@ -70,17 +70,17 @@ pub trait Masted: Cost {
     // The mast of the span of the gates from one position to another.
     ghost mast_of: { Self → List Gate → ℕ → ℕ → Mast };
 
-    // The mast of a span.
-    fn span_mast(&self, span: &Span) -> Mast
-        ensures mast_of_it { result ≡ mast_of self.now span.now.gates.now span.now.first span.now.last }
-        ensures reaches_every_gate { ReachesAll Self.Cost.not_greater (Self.Cost.reads_as self.now) (Self.Cost.span_cost self.now span.now.gates.now span.now.first span.now.last) span.now.gates.now span.now.first span.now.last (Some result) };
-
     // The mast of the span from `first` to `last`, and none where this is no span of the course. By positions: to ask
     // for a `Span` would ask more of callers.
     fn mast(&self, course: &Course, first: usize, last: usize) -> Option<Mast>
         ensures mast_of_the_span { result ≡ of_span (gates_of course.now) first last (mast_of self.now (gates_of course.now) first last) }
-        ensures reaches_every_gate { ReachesAll Self.Cost.not_greater (Self.Cost.reads_as self.now) (Self.Cost.span_cost self.now (gates_of course.now) first last) (gates_of course.now) first last result }
+        ensures reaches_every_gate { ReachesAll Self.Cost.not_greater (Self.Cost.reads_as self.now) (Self.Cost.span_cost self.now (gates_of course.now) first last) (gates_of course.now) first last result };
+
+    // The mast of a span. A kind may give its own, which need not test the positions again.
+    fn span_mast(&self, span: &Span) -> Mast
+        ensures mast_of_it { result ≡ mast_of self.now span.now.gates.now span.now.first span.now.last }
+        ensures reaches_every_gate { ReachesAll Self.Cost.not_greater (Self.Cost.reads_as self.now) (Self.Cost.span_cost self.now span.now.gates.now span.now.first span.now.last) span.now.gates.now span.now.first span.now.last (Some result) }
     {
-        Some(self.span_mast(&Span::of(course, first, last)?))
+        self.mast(span.course(), span.first(), span.last()).unwrap()
     }
 }

@@ -5,6 +5,7 @@ ghost use Rattle.course.specs.declared.gate.Gate.{Gate};
 ghost use Rattle.costs.specs.Laws.{Laws};
 
 use crate::{Cost, Span, Whole};
+use course::Course;
 
 // A kind whose values are whole numbers in their usual order, and in which a number reads as itself.
 pub trait Numeric {
@@ -34,6 +35,10 @@ impl<K: Numeric> Cost for K {
     ghost reads_as = { λ _ n. n };
 
     ghost lawful = { K.Numeric.lawful };
+
+    fn span(&self, course: &Course, first: usize, last: usize) -> Option<u64> {
+        Some(self.number(&Span::of(course, first, last)?))
+    }
 
     fn span_cost(&self, span: &Span) -> u64 {
         self.number(span)

@@ -11,9 +11,11 @@ use std::fmt;
 // The gates of a course from the position `first` to the position `last`.
 #[derive(Clone, Copy)]
 pub struct Span<'a> {
+    course: &'a Course,
     gates: &'a [Gate],
     first: usize,
     last: usize,
+    ghost of_the_course: { gates.now ≡ gates_of course.now },
     ghost a_course: { IsCourse gates.now },
     ghost a_span: { is_span gates.now first last ≡ true },
 }
@@ -30,10 +32,18 @@ impl<'a> Span<'a> {
             return None;
         }
         Some(Span {
+            course,
             gates: course.gates(),
             first,
             last,
         })
+    }
+
+    // Its course.
+    pub(crate) fn course(&self) -> &Course
+        ensures its_gates { gates_of result.now ≡ self.now.gates.now }
+    {
+        self.course
     }
 
     // The position of its topmost gate.

@@ -44,6 +44,11 @@ impl Masted for FreeMast {
     ghost mast_of = { λ _. free_mast_mast };
 
     #[tactic(auto, using(crate::proofs::Places::reached_from_middle))]
+    fn mast(&self, course: &Course, first: usize, last: usize) -> Option<Mast> {
+        Some(halfway(&Span::of(course, first, last)?))
+    }
+
+    #[tactic(auto, using(crate::proofs::Places::reached_from_middle))]
     fn span_mast(&self, span: &Span) -> Mast {
         halfway(span)
     }

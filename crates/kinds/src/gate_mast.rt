@@ -50,9 +50,21 @@ impl Masted for GateMast {
     ghost mast_of = { λ _. gate_mast_mast };
 
     #[tactic(auto, using(crate::proofs::Reaches::best_reaches))]
-    fn span_mast(&self, span: &Span) -> Mast {
-        doubled(gate_of(span, best_position(span)))
+    fn mast(&self, course: &Course, first: usize, last: usize) -> Option<Mast> {
+        Some(best_mast(&Span::of(course, first, last)?))
     }
+
+    #[tactic(auto, using(crate::proofs::Reaches::best_reaches))]
+    fn span_mast(&self, span: &Span) -> Mast {
+        best_mast(span)
+    }
+}
+
+// The mast of a span, at its best gate.
+fn best_mast(span: &Span) -> Mast
+    ensures at_the_best_gate { result ≡ gate_mast_mast span.now.gates.now span.now.first span.now.last }
+{
+    doubled(gate_of(span, best_position(span)))
 }
 
 // The gate of a span at a position.

@@ -7,6 +7,7 @@ ghost use Rattle.steps.specs.Monotone.{step_order, steps_monotone};
 use crate::limits::Limits;
 use crate::step::Step;
 use costs::{Cost, Mast, Masted, Span, Whole};
+use course::Course;
 
 // The kind `below`, whose costs are turned into steps by a table of limits.
 #[derive(Clone, Copy)]
@@ -35,6 +36,10 @@ impl<C: Whole> Cost for Steps<C> {
           hull = λ s gs ps course group. steps_monotone (limits_of s.limits) _ _ (sym (usual _ _) ∙ below.hull s.below gs ps course group);
         } };
 
+    fn span(&self, course: &Course, first: usize, last: usize) -> Option<Step> {
+        Some(self.limits.step_of(self.below.span(course, first, last)?))
+    }
+
     fn span_cost(&self, span: &Span) -> Step {
         self.limits.step_of(self.below.span_cost(span))
     }
@@ -50,6 +55,10 @@ impl<C: Whole> Cost for Steps<C> {
 
 impl<C: Whole + Masted> Masted for Steps<C> {
     ghost mast_of = { λ s gs first last. C.Masted.mast_of s.below gs first last };
+
+    fn mast(&self, course: &Course, first: usize, last: usize) -> Option<Mast> {
+        self.below.mast(course, first, last)
+    }
 
     fn span_mast(&self, span: &Span) -> Mast {
         self.below.span_mast(span)
