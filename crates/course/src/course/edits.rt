@@ -140,5 +140,8 @@ fn first_beside(gates: &[Gate], gate: Gate) -> Option<u8>
 fn count_above(gates: &[Gate], gate: Gate) -> usize
     ensures above_it { result ≡ count_above gate gates.now }
 {
-    gates.iter().filter(|other| other.is_above(gate)).count()
+    gates
+        .iter()
+        .map(|other| usize::from(other.is_above(gate)))
+        .sum()
 }
