@@ -76,7 +76,13 @@ impl Order {
         requires whole { length out.old ≡ size_of self.now }
         ensures after { out.new ≡ encode self.now }
     {
-        out.copy_from_slice(&self.as_number().to_be_bytes()[8 - out.len()..]);
+        let bytes = self.as_number().to_be_bytes();
+        // Each size by itself, so that no copy has a length that is known only as it runs.
+        match out.len() {
+            2 => out.copy_from_slice(&bytes[6..]),
+            6 => out.copy_from_slice(&bytes[2..]),
+            _ => out.copy_from_slice(&bytes[8 - out.len()..]),
+        }
     }
 }
 
