@@ -1,5 +1,6 @@
 // Reads a whole stream.
 ghost use Rattle.std.specs.Prelude.{◌≡◌, ◌*◌, ◌≤◌, [], ◌++◌, length, take, drop, IfOk, Ok};
+ghost use Rattle.orders.specs.Iter.{count_to};
 ghost use Rattle.orders.specs.Streams.{parse, count_answer, read_answer, read_leaves, Fronts, OneReading};
 
 use crate::fault::{ReadFault, StreamFault};
@@ -19,16 +20,25 @@ fn fill(bytes: &[u8], count: usize, out: &mut [Order])
     }
 }
 
+// The orders of a stream after all of them came.
+fn after_all(bytes: &[u8]) -> Orders<'_>
+    ensures count { count_to result.index result.byte result.rest.now ≡ count_answer bytes.now }
+    ensures few { IfOk (count_answer bytes.now) (λ n. 2 * n ≤ length bytes.now) }
+    ensures reading { OneReading bytes.now }
+{
+    let mut orders = Orders::new(bytes);
+    // Not a `for` over `&mut orders`: after that, a proof knows nothing of what `orders` is.
+    while orders.next().is_some() {}
+    orders
+}
+
 // How many orders a stream has, or the first fault and where it is.
 pub fn count_orders(bytes: &[u8]) -> Result<usize, StreamFault>
     ensures count_or_first_fault { result ≡ count_answer bytes.now }
     ensures at_most_one_for_two_bytes { IfOk result (λ n. 2 * n ≤ length bytes.now) }
     ensures written_up_to_the_fault { OneReading bytes.now }
 {
-    let mut orders = Orders::new(bytes);
-    // Not a `for` over `&mut orders`: after that, a proof knows nothing of what `orders` is.
-    while orders.next().is_some() {}
-    orders.count_so_far()
+    after_all(bytes).count_so_far()
 }
 
 // Reads the orders of a stream into the front of `out`, and says how many they are. Where the stream
