@@ -1,5 +1,5 @@
 pub mod Best
 pub mod Groups
-pub mod Nearer
+pub mod Indices
 pub mod Places
 pub mod Reaches

@@ -1,5 +1,5 @@
 -- No place is nearer to two gates than the one halfway between them. Assumes nothing.
-use Rattle.std.proofs.Common.{◌≡◌, ℕ, ◌+◌, ◌-◌, ◌*◌, ◌≤◌, leb, List, [], ◌∷◌, length, ℤ, pos, ◌+ℤ◌, ◌-ℤ◌, ◌*ℤ◌, nat_abs, ap, ⊎_elim, add-le-add, mul_comm, add-mul, mul-le-mul, mul-add, arith, le-leb}
+use Rattle.std.proofs.Common.{◌≡◌, ℕ, ◌+◌, ◌-◌, ◌*◌, ◌≤◌, true, leb, List, [], ◌∷◌, length, ℤ, pos, ◌+ℤ◌, ◌-ℤ◌, ◌*ℤ◌, nat_abs, ap, ⊎_elim, add-le-add, mul_comm, add-mul, mul-le-mul, mul-add, arith, le-leb}
 use Rattle.std.proofs.Math.Nat.{mul-mul-mul_comm}
 use Rattle.std.proofs.lemmas.Int.{ints}
 use borrow.Author.Differences.{up, down}
@@ -11,7 +11,7 @@ use Rattle.course.proofs.Order.{Under, lies_under, stands_in_range}
 use Rattle.course.proofs.Squares.{apart_small}
 use Rattle.costs.specs.declared.span.Span.{Span}
 use Rattle.costs.specs.declared.mast.Mast.{Mast}
-use Rattle.costs.specs.Groups.{Rise, Group, last_from}
+use Rattle.costs.specs.Groups.{is_span, Rise, Group, last_from}
 use Rattle.costs.specs.Masts.{mast_place, Reached, reach}
 use Rattle.costs.proofs.Spans.{within, rise_within}
 use Rattle.kinds.specs.FreeMast.{halfway, farthest_from, LeastOverPlaces, free_mast_group, free_mast_span, free_mast_mast}
@@ -111,12 +111,14 @@ module _ (gs : List Gate) (k : IsCourse gs) where
     unbeaten = λ q place _. none_nearer q place p ps;
   }
 
--- every gate of a span is reached from the mast halfway between its ends
-pub reached_from_middle : (s : Span) (m : Mast) (p : ℕ) → m ≡ free_mast_mast s.gates.now s.first s.last → s.first ≤ p → p ≤ s.last → Reached leb (λ n. n) (free_mast_span s.gates.now s.first s.last) (reach m (gate_at s.gates.now p))
-reached_from_middle s m p e h l =
-    let gs = s.gates.now in
-    let k = s.a_course in
-    let v = within gs s.first s.last s.a_span in
-    let near = middle_near (gate_at gs s.first) (gate_at gs p) (gate_at gs s.last) (lies_under gs k s.first p v.counted h (omega (arith, v.inside))) (lies_under gs k p s.last (omega (arith, v.counted)) l v.inside) in
-    let small = apart_small (gate_at gs s.first) (gate_at gs s.last) (stands_in_range gs k s.first v.counted (omega (arith, v.in_order, v.inside))) (stands_in_range gs k s.last (omega (arith, v.counted, v.in_order)) v.inside) in
-    rw e (record { fits = omega arith; affordable = le-leb _ _ near })
+  -- every gate of a span is reached from the mast halfway between its ends
+  pub reached_from_middle : (i j : ℕ) → is_span gs i j ≡ true → (p : ℕ) → i ≤ p → p ≤ j → Reached leb (λ n. n) (free_mast_span gs i j) (reach (free_mast_mast gs i j) (gate_at gs p))
+  reached_from_middle i j w p h l =
+      let v = within gs i j w in
+      let near = middle_near (gate_at gs i) (gate_at gs p) (gate_at gs j) (lies_under gs k i p v.counted h (omega (arith, v.inside))) (lies_under gs k p j (omega (arith, v.counted)) l v.inside) in
+      let small = apart_small (gate_at gs i) (gate_at gs j) (stands_in_range gs k i v.counted (omega (arith, v.in_order, v.inside))) (stands_in_range gs k j (omega (arith, v.counted, v.in_order)) v.inside) in
+      record { fits = omega arith; affordable = le-leb _ _ near }
+
+-- and so from a mast that stands there
+pub span_reached : (s : Span) (m : Mast) (p : ℕ) → m ≡ free_mast_mast s.gates.now s.first s.last → s.first ≤ p → p ≤ s.last → Reached leb (λ n. n) (free_mast_span s.gates.now s.first s.last) (reach m (gate_at s.gates.now p))
+span_reached s m p e h l = rw e (reached_from_middle s.gates.now s.a_course s.first s.last s.a_span p h l)

@@ -1,7 +1,8 @@
 // A mast at any place.
-ghost use Rattle.std.specs.Prelude.{◌≡◌, ◌^◌, ◌<◌};
+ghost use Rattle.std.specs.Prelude.{◌≡◌, ◌^◌, ◌<◌, Some, nat_le};
 ghost use Rattle.course.specs.View.{gates_of};
 ghost use Rattle.costs.specs.Groups.{of_span, span, EveryGroup, Told};
+ghost use Rattle.costs.specs.Masts.{ReachesAll};
 ghost use Rattle.kinds.specs.FreeMast.{free_mast_span, free_mast_group, free_mast_mast, LeastOverPlaces};
 ghost use Rattle.course.specs.Distances.{apart};
 ghost use Rattle.course.proofs.Squares.{apart_within};
@@ -17,7 +18,6 @@ pub struct FreeMast;
 
 // The cost of the span from `first` to `last`, and none where this is no span of the course. By positions: to ask for a
 // `Span` would ask more of callers.
-#[tactic(auto, using(crate::proofs::Groups::free_mast_below, crate::proofs::Groups::free_mast_least))]
 pub fn free_mast_cost(course: &Course, first: usize, last: usize) -> Option<u64>
     ensures squared_distance_of_the_ends { result ≡ of_span (gates_of course.now) first last (free_mast_span (gates_of course.now) first last) }
     ensures below_two_to_43 { Told result (λ c. c < 2 ^ 43) }
@@ -43,29 +43,31 @@ impl Numeric for FreeMast {
 impl Masted for FreeMast {
     ghost mast_of = { λ _. free_mast_mast };
 
-    #[tactic(auto, using(crate::proofs::Places::reached_from_middle))]
     fn mast(&self, course: &Course, first: usize, last: usize) -> Option<Mast> {
         Some(halfway(&Span::of(course, first, last)?))
     }
 
-    #[tactic(auto, using(crate::proofs::Places::reached_from_middle))]
     fn span_mast(&self, span: &Span) -> Mast {
         halfway(span)
     }
 }
 
 // The squared distance of the ends of a span.
-#[tactic(auto, using(crate::proofs::Groups::apart_below))]
-fn ends_apart(span: &Span) -> u64
-    ensures squared_distance { result ≡ free_mast_span span.now.gates.now span.now.first span.now.last }
+#[tactic(auto, using(crate::proofs::Groups::apart_below, crate::proofs::Groups::free_mast_below, crate::proofs::Groups::free_mast_least, crate::proofs::Groups::free_mast_least_here))]
+fn ends_apart(zone: &Span) -> u64
+    ensures squared_distance { result ≡ free_mast_span zone.now.gates.now zone.now.first zone.now.last }
     ensures small { result < 2 ^ 41 }
+    ensures all_small { EveryGroup zone.now.gates.now (λ ps. free_mast_group zone.now.gates.now ps < 2 ^ 43) }
+    ensures least_here { LeastOverPlaces zone.now.gates.now (span zone.now.first zone.now.last) result }
+    ensures least_anywhere { EveryGroup zone.now.gates.now (λ ps. LeastOverPlaces zone.now.gates.now ps (free_mast_group zone.now.gates.now ps)) }
 {
-    distance_squared(span.top(), span.bottom()) as u64
+    distance_squared(zone.top(), zone.bottom())
 }
 
 // The mast halfway between the ends of a span. No `From` of two gates, which would have to take gates out of range too.
 fn halfway(span: &Span) -> Mast
     ensures between_the_ends { result ≡ free_mast_mast span.now.gates.now span.now.first span.now.last }
+    ensures reaches_every_gate { ReachesAll nat_le (λ n. n) (free_mast_span span.now.gates.now span.now.first span.now.last) span.now.gates.now span.now.first span.now.last (Some result) }
 {
     let (top, bottom) = (span.top(), span.bottom());
     Mast {

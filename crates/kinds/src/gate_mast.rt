@@ -1,10 +1,11 @@
 // A mast at one of the gates of its group.
-ghost use Rattle.std.specs.Prelude.{◌≡◌, ◌^◌, ◌<◌, ◌≤◌, true, refl};
+ghost use Rattle.std.specs.Prelude.{◌≡◌, ◌^◌, ◌<◌, ◌≤◌, true, Some, nat_le, refl};
 ghost use Rattle.course.specs.Gates.{in_range, gate_at};
 ghost use Rattle.course.specs.View.{gates_of};
 ghost use Rattle.costs.specs.Groups.{of_span, EveryGroup, Told};
+ghost use Rattle.costs.specs.Masts.{ReachesAll};
 ghost use Rattle.kinds.specs.GateMast.{gate_mast_group, gate_mast_span, gate_mast_at, gate_mast_best, doubled, gate_mast_mast, TopmostBest};
-ghost use Rattle.kinds.specs.Parts.{FirstFarther};
+ghost use Rattle.kinds.specs.Parts.{farther_from_first, FirstFarther};
 ghost use Rattle.costs.proofs.Numbers.{number_order};
 ghost use Rattle.kinds.specs.GateMastLaws.{nested, hull};
 
@@ -18,7 +19,6 @@ pub struct GateMast;
 
 // The least cost of the span from `first` to `last` and the gate for its mast, the topmost of equally good ones, and
 // none where this is no span of the course. By positions: to ask for a `Span` would ask more of callers.
-#[tactic(auto, using(crate::proofs::Groups::gate_mast_below))]
 pub fn best_gate(course: &Course, first: usize, last: usize) -> Option<(u64, usize)>
     ensures least_cost_and_its_gate { result ≡ of_span (gates_of course.now) first last (gate_mast_best (gates_of course.now) first last) }
     ensures below_two_to_43 { Told result (λ b. b.0 < 2 ^ 43) }
@@ -49,22 +49,23 @@ impl Numeric for GateMast {
 impl Masted for GateMast {
     ghost mast_of = { λ _. gate_mast_mast };
 
-    #[tactic(auto, using(crate::proofs::Reaches::best_reaches))]
     fn mast(&self, course: &Course, first: usize, last: usize) -> Option<Mast> {
         Some(best_mast(&Span::of(course, first, last)?))
     }
 
-    #[tactic(auto, using(crate::proofs::Reaches::best_reaches))]
     fn span_mast(&self, span: &Span) -> Mast {
         best_mast(span)
     }
 }
 
 // The mast of a span, at its best gate.
+#[tactic(auto, using(crate::proofs::Reaches::best_reaches))]
 fn best_mast(span: &Span) -> Mast
     ensures at_the_best_gate { result ≡ gate_mast_mast span.now.gates.now span.now.first span.now.last }
+    ensures reaches_every_gate { ReachesAll nat_le (λ n. n) (gate_mast_span span.now.gates.now span.now.first span.now.last) span.now.gates.now span.now.first span.now.last (Some result) }
 {
-    doubled(gate_of(span, best_position(span)))
+    let (_, y) = best_of_span(span);
+    doubled(gate_of(span, y))
 }
 
 // The gate of a span at a position.
@@ -76,13 +77,31 @@ fn gate_of(span: &Span, position: usize) -> Gate
     span.gates()[position - span.first()]
 }
 
-// The topmost gate of a span that is at least as far from the first gate as from the last.
+// Whether the gate at `y` is at least as far from the topmost gate of a span as from the lowest.
+fn is_farther_from_first(span: &Span, y: usize) -> bool
+    requires a_gate_of_the_span { (span.now.first ≤ y) × (y ≤ span.now.last) }
+    ensures compared { result ≡ farther_from_first span.now.gates.now span.now.first span.now.last y }
+{
+    let gate = gate_of(span, y);
+    distance_squared(span.top(), gate) >= distance_squared(gate, span.bottom())
+}
+
+// The topmost gate of a span that is at least as far from the topmost as from the lowest.
+// Not by `partition_point`: it may ask of any gate, and takes half as long again.
 fn first_farther(span: &Span) -> usize
     ensures first_farther { FirstFarther span.now.gates.now span.now.first span.now.last result }
 {
-    let (top, bottom) = (span.top(), span.bottom());
-    let is_nearer = |gate: &Gate| distance_squared(top, *gate) < distance_squared(*gate, bottom);
-    span.first() + span.gates().partition_point(is_nearer)
+    let mut low = span.first();
+    let mut high = span.last();
+    while low < high {
+        let middle = low + (high - low) / 2;
+        if is_farther_from_first(span, middle) {
+            high = middle;
+        } else {
+            low = middle + 1;
+        }
+    }
+    low
 }
 
 // The gate of a span for its mast, the topmost of equally good ones.
@@ -101,15 +120,17 @@ fn best_position(span: &Span) -> usize
 }
 
 // The least cost of a span and the topmost gate for a mast at that cost.
-#[tactic(auto, using(crate::proofs::Groups::apart_below, crate::proofs::Best::best_cost))]
+#[tactic(auto, using(crate::proofs::Groups::apart_below, crate::proofs::Best::best_cost, crate::proofs::Groups::gate_mast_below, crate::proofs::Groups::gate_mast_topmost))]
 fn best_of_span(span: &Span) -> (u64, usize)
     ensures least_cost_and_its_gate { result ≡ gate_mast_best span.now.gates.now span.now.first span.now.last }
     ensures small { result.0 < 2 ^ 43 }
+    ensures all_small { EveryGroup span.now.gates.now (λ ps. gate_mast_group span.now.gates.now ps < 2 ^ 43) }
+    ensures topmost_of_the_best { TopmostBest span.now.gates.now span.now.first span.now.last result.0 result.1 }
 {
     let y = best_position(span);
     let gate = gate_of(span, y);
     let farthest = distance_squared(span.top(), gate).max(distance_squared(gate, span.bottom()));
-    (4 * farthest as u64, y)
+    (4 * farthest, y)
 }
 
 // The place of a gate, doubled. No `From<Gate>`, which would have to take a gate out of range too.

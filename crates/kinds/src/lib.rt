@@ -1,7 +1,8 @@
 // Cost kinds whose values are whole numbers: the gate mast, the free mast and the trench.
 #![tactic(auto)]
 
-ghost use Rattle.std.specs.Prelude.{◌≡◌, ◌^◌, ◌<◌, pos, ◌-ℤ◌, unsigned_abs};
+ghost use Rattle.std.specs.Prelude.{◌≡◌, ◌^◌, ◌<◌, true, pos, ◌-ℤ◌, unsigned_abs};
+ghost use Rattle.course.specs.Gates.{in_range};
 ghost use Rattle.course.specs.Distances.{apart};
 
 use course::Gate;
@@ -34,10 +35,13 @@ fn higher(a: Gate, b: Gate) -> i64
 }
 
 // The squared distance of two gates.
-fn distance_squared(a: Gate, b: Gate) -> u128
+#[tactic(auto, using(crate::proofs::Groups::apart_below))]
+fn distance_squared(a: Gate, b: Gate) -> u64
+    requires ranged { (in_range a ≡ true) × (in_range b ≡ true) }
     ensures squared_distance { result ≡ apart a b }
+    ensures small { result < 2 ^ 41 }
 {
     let along = farther(a, b).unsigned_abs();
     let up = higher(a, b).unsigned_abs();
-    u128::from(along * along) + u128::from(up * up)
+    along * along + up * up
 }

@@ -16,7 +16,6 @@ pub struct Trench;
 
 // The cost of the span from `first` to `last`, and none where this is no span of the course. By positions: to ask for a
 // `Span` would ask more of callers.
-#[tactic(auto, using(crate::proofs::Groups::trench_below))]
 pub fn trench_cost(course: &Course, first: usize, last: usize) -> Option<u64>
     ensures from_end_to_end { result ≡ of_span (gates_of course.now) first last (trench_span (gates_of course.now) first last) }
     ensures below_two_to_43 { Told result (λ c. c < 2 ^ 43) }
@@ -45,9 +44,11 @@ fn length_between(upper: Gate, lower: Gate) -> u64
 }
 
 // The length of the trench of a span.
+#[tactic(auto, using(crate::proofs::Groups::trench_below))]
 fn span_length(span: &Span) -> u64
     ensures from_end_to_end { result ≡ trench_span span.now.gates.now span.now.first span.now.last }
     ensures small { result < 2 ^ 21 }
+    ensures all_small { EveryGroup span.now.gates.now (λ ps. trench_group span.now.gates.now ps < 2 ^ 43) }
 {
     length_between(span.top(), span.bottom())
 }

@@ -1,5 +1,5 @@
 use Rattle.std.proofs.Common.{arith}
-use Rattle.kinds.proofs.Nearer.{gate_count, in_range_at_index}
+use Rattle.kinds.proofs.Indices.{gate_count, in_range_at_index}
 use Rattle.kinds.proofs.gate_mast.gate_of.Goals as goal
 
 pub returns-clause-in_range : goal.returns-clause-in_range
