@@ -27,8 +27,11 @@ module _ {bs : List ℕ} {s t : Orders} (w : Walked bs s) where
   walked_on None some h = absurd (false≢true (sym some))
   walked_on (Some x) some h = walked_more x h
 
--- what is counted where no order came
+-- what is counted where no order came, of how many bytes
 pub record Told (bs : List ℕ) (s : Orders) : Type 0 where
+  pub came : s.index ≡ length (parse bs).orders
+  pub few_came : 2 * s.index ≤ length bs
+  pub size : s.byte ≡ size_all (parse bs).orders
   pub count : count_to s.index s.byte s.rest.now ≡ count_answer bs
   pub few : IfOk (count_answer bs) (λ n. 2 * n ≤ length bs)
 
@@ -40,7 +43,13 @@ module _ {bs : List ℕ} {s : Orders} (w : Walked bs s) where
   told_all none =
       let e = reached_all w.at (ap length none) in
       let is : count_answer bs ≡ Ok s.index = sym (told_by None e) ∙ ap Ok (sym e.count) in
-      record { count = ap (count_to s.index s.byte) none ∙ sym is; few = rw is (omega (arith, reached_few w.at)) }
+      record {
+        came = e.count;
+        few_came = omega (arith, reached_few w.at);
+        size = omega (arith, e.bytes, w.byte, ap length none);
+        count = ap (count_to s.index s.byte) none ∙ sym is;
+        few = rw is (omega (arith, reached_few w.at));
+      }
 
   told_fault : (x : ℕ) (xs : List ℕ) (e : OrderFault) → s.rest.now ≡ x ∷ xs → Err e ≡ read (x ∷ xs) → Told bs s
   told_fault x xs e some h =
@@ -48,7 +57,13 @@ module _ {bs : List ℕ} {s : Orders} (w : Walked bs s) where
       let at : length (parse bs).orders ≡ s.index = sym end.count in
       let byte : size_all (parse bs).orders ≡ s.byte = omega (arith, end.bytes, w.byte) in
       let is : count_answer bs ≡ Err record { index = s.index; byte = s.byte; cause = e } = rw (at, byte) at (sym (told_by (Some e) end)) in
-      record { count = ap (count_to s.index s.byte) some ∙ ap (count_or s.index s.byte) (sym h) ∙ sym is; few = rw is tt }
+      record {
+        came = end.count;
+        few_came = omega (arith, reached_few w.at);
+        size = sym byte;
+        count = ap (count_to s.index s.byte) some ∙ ap (count_or s.index s.byte) (sym h) ∙ sym is;
+        few = rw is tt;
+      }
 
   told_read : (x : ℕ) (xs : List ℕ) (r : Result (Order × List ℕ) OrderFault) → s.rest.now ≡ x ∷ xs → r ≡ read (x ∷ xs) → (parse (x ∷ xs)).orders ≡ [] → Told bs s
   told_read x xs (Ok p) some h none = let z = ap (λ q. q.orders) (parse_more (x ∷ xs) p.0 p.1 h) in cc

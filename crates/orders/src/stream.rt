@@ -2,6 +2,7 @@
 ghost use Rattle.std.specs.Prelude.{◌≡◌, ◌*◌, ◌≤◌, [], ◌++◌, length, take, drop, IfOk, Ok};
 ghost use Rattle.orders.specs.Iter.{count_to};
 ghost use Rattle.orders.specs.Streams.{parse, count_answer, read_answer, read_leaves, Fronts, OneReading};
+ghost use Rattle.orders.specs.Writing.{size_all};
 
 use crate::fault::{ReadFault, StreamFault};
 use crate::iter::Orders;
@@ -22,8 +23,11 @@ fn fill(bytes: &[u8], count: usize, out: &mut [Order])
 
 // The orders of a stream after all of them came.
 fn after_all(bytes: &[u8]) -> Orders<'_>
-    ensures count { count_to result.index result.byte result.rest.now ≡ count_answer bytes.now }
-    ensures few { IfOk (count_answer bytes.now) (λ n. 2 * n ≤ length bytes.now) }
+    ensures count { result.index ≡ length (parse bytes.now).orders }
+    ensures few { 2 * result.index ≤ length bytes.now }
+    ensures size { result.byte ≡ size_all (parse bytes.now).orders }
+    ensures answer { count_to result.index result.byte result.rest.now ≡ count_answer bytes.now }
+    ensures few_told { IfOk (count_answer bytes.now) (λ n. 2 * n ≤ length bytes.now) }
     ensures reading { OneReading bytes.now }
 {
     let mut orders = Orders::new(bytes);

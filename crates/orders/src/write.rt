@@ -77,7 +77,7 @@ impl Order {
         ensures after { out.new ≡ encode self.now }
     {
         let bytes = self.as_number().to_be_bytes();
-        // Each size by itself, so that no copy has a length that is known only as it runs.
+        // The short orders by themselves, so that the length of their copy is known before it runs.
         match out.len() {
             2 => out.copy_from_slice(&bytes[6..]),
             6 => out.copy_from_slice(&bytes[2..]),

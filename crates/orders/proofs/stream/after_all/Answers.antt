@@ -9,4 +9,4 @@ loop-preserved c = walked_on c.loop.invariant _ c.loop-test.ensures c.next.ensur
 pub returns : goal.returns
 returns c =
     let t = walked_off c.loop.invariant _ c.loop-test.ensures c.next.ensures.steps in
-    record { count = t.count; few = t.few; reading = one_reading c.args.bytes.now (bytes_typed _ c.type_inv.bytes) }
+    record { count = t.came; few = t.few_came; size = t.size; answer = t.count; few_told = t.few; reading = one_reading c.args.bytes.now (bytes_typed _ c.type_inv.bytes) }
