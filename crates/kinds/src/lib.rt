@@ -21,6 +21,7 @@ pub use trench::{Trench, trench_cost};
 fn farther(a: Gate, b: Gate) -> i64
     ensures difference { result ≡ pos a.distance -ℤ pos b.distance }
     ensures short { unsigned_abs result < 2 ^ 32 }
+    ensures shorter_in_range { in_range a ≡ true → in_range b ≡ true → unsigned_abs result < 2 ^ 20 }
 {
     i64::from(a.distance) - i64::from(b.distance)
 }
@@ -30,6 +31,7 @@ fn farther(a: Gate, b: Gate) -> i64
 fn higher(a: Gate, b: Gate) -> i64
     ensures difference { result ≡ a.height -ℤ b.height }
     ensures short { unsigned_abs result < 2 ^ 32 }
+    ensures shorter_in_range { in_range a ≡ true → in_range b ≡ true → unsigned_abs result < 2 ^ 20 }
 {
     i64::from(a.height) - i64::from(b.height)
 }

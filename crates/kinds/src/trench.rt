@@ -1,5 +1,6 @@
 // A trench from the topmost gate of a group to its lowest.
-ghost use Rattle.std.specs.Prelude.{◌≡◌, ◌^◌, ◌<◌};
+ghost use Rattle.std.specs.Prelude.{◌≡◌, ◌^◌, ◌<◌, true};
+ghost use Rattle.course.specs.Gates.{in_range};
 ghost use Rattle.course.specs.View.{gates_of};
 ghost use Rattle.costs.specs.Groups.{of_span, EveryGroup, Told};
 ghost use Rattle.kinds.specs.Trench.{trench, trench_span, trench_group};
@@ -39,6 +40,7 @@ impl Numeric for Trench {
 // The length of a trench from one gate to another.
 fn length_between(upper: Gate, lower: Gate) -> u64
     ensures along_and_down { result ≡ trench upper lower }
+    ensures small_in_range { in_range upper ≡ true → in_range lower ≡ true → result < 2 ^ 21 }
 {
     farther(lower, upper).unsigned_abs() + higher(upper, lower).unsigned_abs()
 }

@@ -14,4 +14,4 @@ returns-clause-topmost_of_the_best c =
     let bottom = c.bottom.ensures.gate_at_last in
     let up : c.distance_squared.result ≡ between s.gates.now s.first y = rw (← top, ← gate) c.distance_squared.ensures.squared_distance in
     let down : c.distance_squared-2.result ≡ between s.gates.now y s.last = rw (← gate, ← bottom) c.distance_squared-2.ensures.squared_distance in
-    gate_mast_topmost s _ _ (rw (c.max-farthest.ensures, up, down) (best_cost s _ there)) there
+    gate_mast_topmost s.gates.now s.a_course s.first s.last _ _ s.a_span (rw (c.max-farthest.ensures, up, down) (best_cost s _ there)) there
