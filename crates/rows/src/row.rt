@@ -30,13 +30,14 @@ impl<T: Clone, const N: usize> Clone for Row<T, N> {
 impl<T: Copy, const N: usize> Copy for Row<T, N> {}
 
 impl<T: Copy, const N: usize> Row<T, N> {
-    ghost use Rattle.std.specs.Prelude.{[], slice_get};
+    ghost use Rattle.std.specs.Prelude.{◌-◌, [], drop, replicate, slice_get, IfSome};
     ghost use Rattle.std.specs.List.{remove};
     ghost use Rattle.rows.specs.Rows.{items_of, items_made, fitting, insert_answer, after_insert};
 
     // A row of no items, with `blank` in its cells.
     pub fn new(blank: T) -> Self
         ensures no_items { items_of result ≡ [] }
+        ensures blank { result.cells ≡ replicate N blank }
     {
         Row {
             cells: [blank; N],
@@ -47,6 +48,7 @@ impl<T: Copy, const N: usize> Row<T, N> {
     // A row of these items, with `blank` in the other cells, if there are few enough.
     pub fn from_slice(blank: T, items: &[T]) -> Option<Self>
         ensures made { items_made result ≡ fitting N items.now }
+        ensures blank_after { IfSome result (λ r. drop r.count r.cells ≡ replicate (N - r.count) blank) }
     {
         if items.len() > N {
             return None;
